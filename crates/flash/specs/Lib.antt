@@ -1,0 +1,4 @@
+pub mod Lists
+pub mod Blocks
+pub mod Image
+pub mod Effects

@@ -1,0 +1,6 @@
+pub mod Answers
+pub mod CommandLaws
+pub mod EndingLaws
+pub mod PacketLaws
+pub mod Given
+pub mod Runs

@@ -1,0 +1,43 @@
+-- `endings::not_carried` meets its contract: it asks the two questions of `unconfirmed` in turn.
+use mathlib.Core.Path.{sym, _∙_}
+use borrow.Author.Tests.{eq-eqb, ne-eqb}
+use Rattle.port.specs.Parts.{unconfirmed}
+use borrow.Author.Needs.{needs}
+use Rattle.port.proofs.endings.not_carried.Statement.{statement}
+use Rattle.port.proofs.endings.not_carried.Tie as tie
+
+returns : tie.Need-returns
+unfolding unconfirmed
+returns c = simp (eq-eqb _ _ (c .if1 .taken))
+
+is-standing-requires : tie.Need-is-standing-requires
+is-standing-requires c κs = search needs
+
+returns-2 : tie.Need-returns-2
+unfolding unconfirmed
+returns-2 c = simp (ne-eqb _ _ (c .before .before .if1 .left), sym (c .before .is-standing .ensures) ∙ c .if2 .taken)
+
+add-with-srd : tie.Need-add-with-srd
+add-with-srd c = search needs
+
+add-with-srd-2 : tie.Need-add-with-srd-2
+add-with-srd-2 c = search needs
+
+with-srd-requires : tie.Need-with-srd-requires
+with-srd-requires c κs = search needs
+
+returns-3 : tie.Need-returns-3
+unfolding unconfirmed
+returns-3 c = c .with-srd .ensures ∙ simp (ne-eqb _ _ (c .before .before .before .if1 .left), sym (c .before .before .is-standing .ensures) ∙ c .before .if2 .left)
+
+pub not-carried-spec : {M : Type 1} → statement M
+not-carried-spec =
+    tie.close
+    (tie.spec
+    returns
+    is-standing-requires
+    returns-2
+    add-with-srd
+    add-with-srd-2
+    with-srd-requires
+    returns-3)

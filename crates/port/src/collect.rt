@@ -1,0 +1,31 @@
+// The collected bytes.
+ghost use mathlib.Core.Path.{_≡_};
+ghost use mathlib.Core.List.{List};
+ghost use Prim.Native.Nat.{ℕ, suc, _+_, _<_};
+ghost use lib.ListN.{getD, set, take};
+ghost use lib.Dec.{ltb};
+ghost use Rattle.unit.specs.Model.{noBytes};
+
+pub(crate) fn clear(collected: &mut [u8; 259])
+    ensures { λ _. ⌜ now (collected .exit) ≡ noBytes ⌝ }
+{
+    *collected = [0u8; 259];
+}
+
+pub(crate) fn store(collected: &mut [u8; 259], at: usize, b: u8)
+    requires { ⌜ at < 259 ⌝ }
+    ensures { λ _. ⌜ now (collected .exit) ≡ set (now (collected .entry)) at b ⌝ }
+{
+    collected[at] = b;
+}
+
+// More bytes follow the one at place n of a packet whose fourth collected byte is its size.
+pub(crate) fn goes_on(n: usize, size: u8) -> bool
+    requires { ⌜ n < 259 ⌝ }
+    ensures { λ r. ⌜ ((got : List ℕ) → getD got 3 0 ≡ size → r ≡ ltb (suc n) (4 + getD (take (suc n) got) 3 0)) ⌝ }
+{
+    if n < 3 {
+        return true;
+    }
+    n + 1 < 4 + size as usize
+}

@@ -1,0 +1,6 @@
+pub mod ByteLists
+pub mod Lengths
+pub mod Positions
+pub mod Ranged
+pub mod Builders
+pub mod Inside

@@ -1,0 +1,40 @@
+-- Document 01, "The unit": which unit records are in range.
+use Prim.Native.Nat.{ℕ}
+use mathlib.Core.Bool.{Bool, true, false, not, _&&_, _||_}
+use mathlib.Core.List.{List}
+use lib.ListN.{take}
+use lib.Dec.{ltb, leb, eqb}
+use Rattle.unit.specs.declared.Unit.{Unit as Port}
+use Rattle.unit.specs.declared.Registers.{Registers}
+use Rattle.unit.specs.declared.Settings.{Settings}
+use Rattle.unit.specs.Phases.{Kind, commandOf, need, Position, positionOf}
+use Rattle.unit.specs.Phases.Position.{sleeping, commanding, within}
+use Rattle.unit.specs.Model.{isOpen}
+
+-- a packet in progress: any but F5 needs an open unit, and the bytes received are fewer than the packet has
+unfoldable pub packetFits : Kind → ℕ → Bool → List ℕ → Bool
+packetFits k n opened got = (eqb (commandOf k) 0xF5 || opened) && ltb n (need k (take n got))
+
+-- the count of zeros is at most 16
+unfoldable pub positionFits : Position → Bool → List ℕ → Bool
+positionFits (sleeping n) opened got = leb n 16
+positionFits commanding opened got = true
+positionFits (within k n) opened got = packetFits k n opened got
+
+unfoldable pub srdFits : ℕ → Bool
+srdFits s = eqb s 0x80 || (eqb s 0x90 || (eqb s 0xA0 || eqb s 0xB0))
+
+unfoldable pub srd1Fits : ℕ → Bool
+srd1Fits s = eqb s 0x00 || (eqb s 0x04 || eqb s 0x0C)
+
+unfoldable pub registersFit : Registers → Bool
+registersFit r = srdFits (r .srd) && (srd1Fits (r .srd1) && leb (r .rate) 4)
+
+-- blank implies SRD1 0C
+unfoldable pub settingsFit : Settings → Registers → Bool
+settingsFit t r = leb (t .protection) 15 && (not (t .blank) || isOpen r)
+
+unfoldable pub inRange : Port → Bool
+inRange u =
+    positionFits (positionOf (u .phase)) (isOpen (u .registers)) (u .collected)
+    && (registersFit (u .registers) && settingsFit (u .settings) (u .registers))
