@@ -1,0 +1,226 @@
+//! Holds the proved port to the independent second program: both answer the same cases, and the answers are compared byte for byte.
+
+use std::fs::{self, File};
+use std::path::{Path, PathBuf};
+use std::process::{Command, ExitCode, Stdio};
+use std::time::Instant;
+
+mod answer;
+mod case;
+mod draw;
+mod random;
+mod sessions;
+mod watch;
+
+use case::Case;
+use random::Random;
+use watch::Watch;
+
+/// Cases to a batch.
+const BATCH: usize = 250;
+
+const USAGE: &str = "usage: compare CASES SEED FOLDER PORT.. -- REFERENCE..\n\
+    CASES cases are drawn from the number SEED and given to both commands in batches; FOLDER holds the files in between.\n\
+    Before them the twelve sessions of document 01 are played and held to typed values.";
+
+struct Commands {
+    folder: PathBuf,
+    port: Vec<String>,
+    reference: Vec<String>,
+}
+
+fn answers(command: &[String], batch: &Path, out: &Path) -> Result<Vec<u8>, String> {
+    let input = File::open(batch).map_err(|e| format!("{}: {e}", batch.display()))?;
+    let output = File::create(out).map_err(|e| format!("{}: {e}", out.display()))?;
+    let status = Command::new(&command[0])
+        .args(&command[1..])
+        .stdin(Stdio::from(input))
+        .stdout(Stdio::from(output))
+        .status()
+        .map_err(|e| format!("{}: {e}", command[0]))?;
+    if !status.success() {
+        return Err(format!("{}: {status}", command[0]));
+    }
+    fs::read(out).map_err(|e| format!("{}: {e}", out.display()))
+}
+
+impl Commands {
+    /// What both programs answer to these cases.
+    fn ask(&self, cases: &[Case]) -> Result<(Vec<u8>, Vec<u8>), String> {
+        let mut bytes = Vec::new();
+        for case in cases {
+            case.lay(&mut bytes);
+        }
+        let batch = self.folder.join("batch");
+        fs::write(&batch, bytes).map_err(|e| format!("{}: {e}", batch.display()))?;
+        let port = answers(&self.port, &batch, &self.folder.join("port.out"))?;
+        let reference = answers(&self.reference, &batch, &self.folder.join("reference.out"))?;
+        Ok((port, reference))
+    }
+}
+
+/// Says where two answers to a case first differ.
+fn tell_difference(seed: u64, number: usize, case: &Case, port: &[u8], reference: &[u8]) {
+    println!("DIFFERENCE: seed {seed}, case {number}");
+    let (mut p, mut r) = (port, reference);
+    let (Some(p), Some(r)) = (answer::take(case, &mut p), answer::take(case, &mut r)) else {
+        println!(
+            "  an answer is too short: port {} bytes, reference {} bytes",
+            port.len(),
+            reference.len()
+        );
+        return;
+    };
+    if p.start != r.start {
+        println!(
+            "  start: port {:02X?}\n  reference {:02X?}",
+            p.start, r.start
+        );
+        return;
+    }
+    for (a, b) in p.calls.iter().zip(&r.calls) {
+        let told = |c: &answer::Call| {
+            format!(
+                "refusal {}, taken {}, reply {:02X?}, SRD {:02X}, SRD1 {:02X}",
+                c.refusal,
+                c.taken,
+                c.reply(),
+                c.srd,
+                c.srd1
+            )
+        };
+        if told(a) != told(b) || a.area != b.area || a.image != b.image {
+            println!(
+                "  group {}, byte {} ({:02X?})",
+                a.group,
+                a.byte + 1,
+                case.groups[a.group].bytes.get(a.byte)
+            );
+            println!("  port:      {}", told(a));
+            println!("  reference: {}", told(b));
+            if told(a) == told(b) {
+                println!("  the reply areas or the images differ");
+            }
+            return;
+        }
+    }
+    println!(
+        "  the unit or the image at the end: port {:02X?}, reference {:02X?}",
+        &p.record[..8],
+        &r.record[..8]
+    );
+    if let Some(k) = (0..p.image.len()).find(|&k| p.image[k] != r.image[k]) {
+        println!(
+            "  image byte {k}: port {:02X}, reference {:02X}",
+            p.image[k], r.image[k]
+        );
+    }
+}
+
+fn play_sessions(commands: &Commands) -> Result<bool, String> {
+    let sessions = sessions::all();
+    let cases: Vec<Case> = sessions.iter().map(|s| s.case.clone()).collect();
+    let (port, reference) = commands.ask(&cases)?;
+    let mut good = true;
+    for (who, bytes) in [("port", port), ("reference", reference)] {
+        let mut rest = &bytes[..];
+        for session in &sessions {
+            let fault = match answer::take(&session.case, &mut rest) {
+                Some(answer) => session.fault(&answer),
+                None => Some("no answer".to_string()),
+            };
+            if let Some(fault) = fault {
+                println!("session {}: {who}: {fault}", session.name);
+                good = false;
+            }
+        }
+    }
+    println!(
+        "sessions: {} rows of document 01's twelve sessions, by both programs",
+        sessions.len()
+    );
+    Ok(good)
+}
+
+fn compare(commands: &Commands, count: usize, seed: u64) -> Result<bool, String> {
+    let mut good = play_sessions(commands)?;
+    let mut random = Random::new(seed);
+    let mut watch = Watch::default();
+    let began = Instant::now();
+    let mut done = 0;
+    while done < count {
+        let cases: Vec<Case> = (0..BATCH.min(count - done))
+            .map(|_| draw::case(&mut random))
+            .collect();
+        let (port, reference) = commands.ask(&cases)?;
+        let (mut p, mut r) = (&port[..], &reference[..]);
+        for (k, case) in cases.iter().enumerate() {
+            let n = case.answer_len();
+            let (here, there) = (&p[..n.min(p.len())], &r[..n.min(r.len())]);
+            if here != there {
+                tell_difference(seed, done + k, case, here, there);
+                return Ok(false);
+            }
+            let mut bytes = there;
+            match answer::take(case, &mut bytes) {
+                Some(answer) => watch.follow(case, &answer),
+                None => {
+                    return Err(format!(
+                        "seed {seed}, case {}: both answers are too short",
+                        done + k
+                    ))
+                }
+            }
+            p = &p[n..];
+            r = &r[n..];
+        }
+        if !p.is_empty() || !r.is_empty() {
+            println!("DIFFERENCE: seed {seed}, batch at case {done}: bytes after the last answer");
+            return Ok(false);
+        }
+        done += cases.len();
+        if done % (BATCH * 20) == 0 {
+            eprintln!(
+                "{done} of {count} cases agree, {} s",
+                began.elapsed().as_secs()
+            );
+        }
+    }
+    let enough = watch.report();
+    good &= enough || count < 3_000;
+    println!(
+        "compared {count} cases from seed {seed}: no difference, {} s",
+        began.elapsed().as_secs()
+    );
+    Ok(good)
+}
+
+fn main() -> ExitCode {
+    let args: Vec<String> = std::env::args().skip(1).collect();
+    let split = args.iter().position(|a| a == "--");
+    let (Some(split), Some(Ok(count)), Some(Ok(seed))) = (
+        split,
+        args.first().map(|a| a.parse::<usize>()),
+        args.get(1).map(|a| a.parse::<u64>()),
+    ) else {
+        eprintln!("{USAGE}");
+        return ExitCode::from(2);
+    };
+    if split < 4 || split + 1 >= args.len() {
+        eprintln!("{USAGE}");
+        return ExitCode::from(2);
+    }
+    let commands = Commands {
+        folder: PathBuf::from(&args[2]),
+        port: args[3..split].to_vec(),
+        reference: args[split + 1..].to_vec(),
+    };
+    match compare(&commands, count, seed) {
+        Ok(true) => ExitCode::SUCCESS,
+        Ok(false) => ExitCode::from(1),
+        Err(why) => {
+            eprintln!("compare: {why}");
+            ExitCode::from(1)
+        }
+    }
+}

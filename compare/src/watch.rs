@@ -1,0 +1,343 @@
+//! Counts what the cases met: each row of document 01's packet table by its outcome, open or closed, each refusal of each call, each edge of a block.
+//! It follows the packets by their lengths and takes the registers from the answers; it knows nothing of images but where blocks lie.
+
+use std::collections::BTreeMap;
+
+use crate::answer::Answer;
+use crate::case::{Beginning, Case};
+
+/// What a run of the gate's length has to meet at least LEAST times.
+pub const LEAST: usize = 20;
+
+const WANTED: &[&str] = &[
+    "start: refusal 0",
+    "start: refusal 1",
+    "start: refusal 2",
+    "byte: refusal 0",
+    "byte: refusal 1",
+    "byte: refusal 3",
+    "byte: refusal 4",
+    "run: refusal 0",
+    "run: refusal 1",
+    "run: refusal 3",
+    "run: refusal 4",
+    "run: stopped for room",
+    "run: empty",
+    "asleep: 00",
+    "asleep: B0 wakes",
+    "asleep: B0 too early",
+    "asleep: other",
+    "FF open: inside",
+    "FF open: outside",
+    "FF closed: dropped",
+    "41 open: equal",
+    "41 open: differs",
+    "41 open: outside",
+    "41 open: protected",
+    "41 open: standing",
+    "41 closed: dropped",
+    "49 open: equal",
+    "49 open: differs",
+    "49 open: none",
+    "49 open: bank",
+    "49 open: outside",
+    "49 open: protected",
+    "49 open: standing",
+    "49 closed: dropped",
+    "20 open: cancelled",
+    "20 open: standing",
+    "20 open: unconfirmed",
+    "20 open: outside",
+    "20 open: protected",
+    "20 open: erased",
+    "20 closed: dropped",
+    "A7 open: cancelled",
+    "A7 open: standing",
+    "A7 open: unconfirmed",
+    "A7 open: erased",
+    "A7 closed: dropped",
+    "50 open: taken",
+    "50 closed: dropped",
+    "70 open: taken",
+    "70 closed: taken",
+    "FB open: taken",
+    "FB closed: taken",
+    "B0 open: taken",
+    "B0 closed: taken",
+    "B1 open: taken",
+    "B1 closed: taken",
+    "B2 open: taken",
+    "B2 closed: taken",
+    "B3 open: taken",
+    "B3 closed: taken",
+    "B4 open: taken",
+    "B4 closed: taken",
+    "00 open: taken",
+    "00 closed: taken",
+    "B5 open: unknown",
+    "B5 closed: unknown",
+    "75 open: unknown",
+    "75 closed: unknown",
+    "F5 open: right",
+    "F5 open: wrong",
+    "F5 open: blank",
+    "F5 closed: right",
+    "F5 closed: wrong",
+    "written: place 0",
+    "written: place 2047",
+    "written: place 2048",
+    "written: place 4095",
+    "written: place 4096",
+    "written: place 12287",
+    "written: place 12288",
+    "written: place 20479",
+];
+
+enum Phase {
+    Asleep(usize),
+    Command,
+    Packet(u8, Vec<u8>),
+}
+
+#[derive(Default)]
+pub struct Watch {
+    counts: BTreeMap<String, usize>,
+}
+
+/// The block of an address and its place in the image.
+fn find(address: usize) -> Option<(usize, usize)> {
+    match address {
+        0x2000..=0x27FF => Some((0, address - 0x2000)),
+        0x2800..=0x2FFF => Some((1, address - 0x2800 + 2048)),
+        0xC000..=0xDFFF => Some((2, address - 0xC000 + 4096)),
+        0xE000..=0xFFFF => Some((3, address - 0xE000 + 12288)),
+        _ => None,
+    }
+}
+
+fn length(command: u8, got: &[u8]) -> usize {
+    match command {
+        0xFF => 2,
+        0x41 => 258,
+        0x20 => 3,
+        0xA7 => 1,
+        _ => 4 + got.get(3).copied().unwrap_or(0) as usize,
+    }
+}
+
+impl Watch {
+    fn note(&mut self, key: impl Into<String>) {
+        *self.counts.entry(key.into()).or_default() += 1;
+    }
+
+    /// Follows a case by the answers that it got.
+    pub fn follow(&mut self, case: &Case, answer: &Answer) {
+        let (mut phase, mut srd, mut srd1, blank, protection) = match &case.beginning {
+            Beginning::Start { protection } => {
+                let (refusal, unit) = answer.start.expect("a start has an answer");
+                self.note(format!("start: refusal {refusal}"));
+                if refusal != 0 {
+                    self.refusals(case, answer);
+                    return;
+                }
+                (
+                    Phase::Asleep(0),
+                    unit[3],
+                    unit[4],
+                    unit[5] == 1,
+                    *protection as usize,
+                )
+            }
+            Beginning::Given(r) => {
+                let phase = match r.tag {
+                    0x00 => Phase::Asleep(r.count as usize),
+                    0x01 => Phase::Command,
+                    tag => Phase::Packet(tag, r.collected[..(r.count as usize).min(259)].to_vec()),
+                };
+                (phase, r.srd, r.srd1, r.blank == 1, r.protection as usize)
+            }
+        };
+        self.refusals(case, answer);
+        for call in &answer.calls {
+            let group = &case.groups[call.group];
+            if group.run {
+                return;
+            }
+            if call.refusal != 0 {
+                continue;
+            }
+            let b = group.bytes[call.byte];
+            let open = srd1 == 0x0C;
+            phase = match phase {
+                Phase::Asleep(zeros) => self.asleep(zeros, b),
+                Phase::Command => self.command(b, open),
+                Phase::Packet(command, mut got) => {
+                    got.push(b);
+                    if got.len() < length(command, &got) {
+                        Phase::Packet(command, got)
+                    } else {
+                        self.end(
+                            command, &got, open, srd, call.srd, call.srd1, blank, protection,
+                        );
+                        Phase::Command
+                    }
+                }
+            };
+            srd = call.srd;
+            srd1 = call.srd1;
+        }
+    }
+
+    fn refusals(&mut self, case: &Case, answer: &Answer) {
+        for call in &answer.calls {
+            let group = &case.groups[call.group];
+            let kind = if group.run { "run" } else { "byte" };
+            self.note(format!("{kind}: refusal {}", call.refusal));
+            if group.run && call.refusal == 0 {
+                if group.bytes.is_empty() {
+                    self.note("run: empty");
+                } else if call.taken < group.bytes.len() {
+                    self.note("run: stopped for room");
+                }
+            }
+        }
+    }
+
+    fn asleep(&mut self, zeros: usize, b: u8) -> Phase {
+        match b {
+            0x00 => {
+                self.note("asleep: 00");
+                Phase::Asleep(zeros + 1)
+            }
+            0xB0 if zeros >= 16 => {
+                self.note("asleep: B0 wakes");
+                Phase::Command
+            }
+            0xB0 => {
+                self.note("asleep: B0 too early");
+                Phase::Asleep(0)
+            }
+            _ => {
+                self.note("asleep: other");
+                Phase::Asleep(0)
+            }
+        }
+    }
+
+    fn command(&mut self, b: u8, open: bool) -> Phase {
+        let state = if open { "open" } else { "closed" };
+        match b {
+            0xFF | 0x41 | 0x49 | 0x20 | 0xA7 | 0x50 if !open => {
+                self.note(format!("{b:02X} closed: dropped"))
+            }
+            0xFF | 0x41 | 0x49 | 0x20 | 0xA7 | 0xF5 => return Phase::Packet(b, Vec::new()),
+            0x50 | 0x70 | 0xFB | 0x00 | 0xB0..=0xB4 => self.note(format!("{b:02X} {state}: taken")),
+            _ => self.note(format!("{b:02X} {state}: unknown")),
+        }
+        Phase::Command
+    }
+
+    #[allow(clippy::too_many_arguments)]
+    fn end(
+        &mut self,
+        command: u8,
+        got: &[u8],
+        open: bool,
+        before: u8,
+        after: u8,
+        srd1: u8,
+        blank: bool,
+        protection: usize,
+    ) {
+        let page = |mid: usize| (got[mid] as usize) << 8 | (got[mid + 1] as usize) << 16;
+        let protected = |block: usize| protection >> block & 1 == 1;
+        let outcome = match command {
+            0xFF => {
+                if find(page(0)).is_some() {
+                    "inside"
+                } else {
+                    "outside"
+                }
+            }
+            0x41 => self.program(page(0), &got[2..], before, after, protection),
+            0x49 => self.program(
+                got[0] as usize | page(1),
+                &got[4..],
+                before,
+                after,
+                protection,
+            ),
+            0x20 | 0xA7 => {
+                let confirm = got[got.len() - 1];
+                match confirm {
+                    0xFF => "cancelled",
+                    _ if before != 0x80 => "standing",
+                    0xD0 if command == 0xA7 => "erased",
+                    0xD0 => match find(page(0)) {
+                        None => "outside",
+                        Some((block, _)) if protected(block) => "protected",
+                        Some(_) => "erased",
+                    },
+                    _ => "unconfirmed",
+                }
+            }
+            _ if blank => "blank",
+            _ if srd1 == 0x0C => "right",
+            _ => "wrong",
+        };
+        let state = if open { "open" } else { "closed" };
+        self.note(format!("{command:02X} {state}: {outcome}"));
+    }
+
+    fn program(
+        &mut self,
+        address: usize,
+        data: &[u8],
+        before: u8,
+        after: u8,
+        protection: usize,
+    ) -> &'static str {
+        if before != 0x80 {
+            return "standing";
+        }
+        if data.is_empty() {
+            return "none";
+        }
+        if address % 65_536 + data.len() > 65_536 {
+            return "bank";
+        }
+        let places: Vec<_> = (0..data.len()).map(|j| find(address + j)).collect();
+        if places.iter().any(|p| p.is_none()) {
+            return "outside";
+        }
+        if places
+            .iter()
+            .flatten()
+            .any(|(block, _)| protection >> block & 1 == 1)
+        {
+            return "protected";
+        }
+        for (_, place) in places.into_iter().flatten() {
+            if [0, 2047, 2048, 4095, 4096, 12287, 12288, 20479].contains(&place) {
+                self.note(format!("written: place {place}"));
+            }
+        }
+        if after == 0x80 {
+            "equal"
+        } else {
+            "differs"
+        }
+    }
+
+    /// The table, and whether each wanted row was met often enough.
+    pub fn report(&self) -> bool {
+        let mut enough = true;
+        for &key in WANTED {
+            let n = self.counts.get(key).copied().unwrap_or(0);
+            let mark = if n < LEAST { "  TOO FEW" } else { "" };
+            enough &= n >= LEAST;
+            println!("{n:>9}  {key}{mark}");
+        }
+        enough
+    }
+}

@@ -1,0 +1,156 @@
+//! Short made-up streams: laws that hold for every stream.
+
+use reference::sessions::image;
+use reference::{byte, run, start, Phase, Unit};
+
+/// A small generator (xorshift), the same numbers every time.
+struct Numbers(u32);
+
+impl Numbers {
+    fn next(&mut self, below: usize) -> usize {
+        self.0 ^= self.0 << 13;
+        self.0 ^= self.0 >> 17;
+        self.0 ^= self.0 << 5;
+        self.0 as usize % below
+    }
+
+    /// Bytes that the protocol cares for, more often than others.
+    fn stream(&mut self) -> Vec<u8> {
+        let pieces: [&[u8]; 18] = [
+            &[
+                0xF5, 0xDF, 0xFF, 0x00, 0x07, 0x31, 0x32, 0x33, 0x34, 0x35, 0x36, 0x37,
+            ],
+            &[0xF5, 0xDF, 0xFF, 0x00, 0x00],
+            &[0xFF, 0x20, 0x00],
+            &[0xFF, 0xE1, 0x00],
+            &[0x41, 0x28, 0x00],
+            &[0x49, 0xFF, 0x27, 0x00, 0x02, 0x55, 0xAA],
+            &[0x49, 0xFE, 0xFF, 0x00, 0x03],
+            &[0x20, 0xC0, 0x00, 0xD0],
+            &[0x20, 0xC0, 0x00],
+            &[0xA7, 0xD0],
+            &[0xA7, 0xFF],
+            &[0x50],
+            &[0x70],
+            &[0xFB],
+            &[0xB3],
+            &[0x00, 0x00],
+            &[0x99],
+            &[0x50, 0x70],
+        ];
+        let mut stream = vec![0; 16];
+        stream.push(0xB0);
+        for _ in 0..60 {
+            if self.next(6) == 0 {
+                let n = self.next(300);
+                stream.extend((0..n).map(|_| self.next(256) as u8));
+            } else {
+                stream.extend_from_slice(pieces[self.next(pieces.len())]);
+            }
+        }
+        stream
+    }
+}
+
+fn protected_cells(protection: u8, image: &[u8]) -> Vec<u8> {
+    let mut cells = Vec::new();
+    for (block, range) in [0..2048, 2048..4096, 4096..12_288, 12_288..20_480]
+        .into_iter()
+        .enumerate()
+    {
+        if protection & (1 << block) != 0 {
+            cells.extend_from_slice(&image[range]);
+        }
+    }
+    cells
+}
+
+#[test]
+fn a_run_equals_its_bytes_one_by_one() {
+    let mut numbers = Numbers(0x1234_5678);
+    for round in 0..40 {
+        let protection = round % 16;
+        let stream = numbers.stream();
+        let area_len = 256 + numbers.next(2000);
+        let unit = start(&image(), protection).1;
+
+        let mut run_unit = unit.clone();
+        let mut run_image = image();
+        let mut run_area = vec![0xA5; area_len];
+        let answer = run(&mut run_unit, &mut run_image, &stream, &mut run_area);
+        assert_eq!(answer.refusal, 0);
+
+        let mut unit = unit;
+        let mut image = image();
+        let mut expected = Vec::new();
+        let mut taken = 0;
+        for &b in &stream {
+            if area_len - expected.len() < 256 {
+                break;
+            }
+            let mut area = [0x5A; 256];
+            let answer = byte(&mut unit, &mut image, &mut area, b);
+            assert_eq!((answer.refusal, answer.taken), (0, 1));
+            assert!(area[answer.reply_len..].iter().all(|&rest| rest == 0x5A));
+            expected.extend_from_slice(&area[..answer.reply_len]);
+            taken += 1;
+        }
+        assert_eq!((answer.taken, answer.reply_len), (taken, expected.len()));
+        expected.resize(area_len, 0xA5);
+        assert_eq!(run_area, expected);
+        assert_eq!(run_unit, unit);
+        assert_eq!(run_image, image);
+    }
+}
+
+#[test]
+fn units_stay_in_range_and_protected_blocks_unchanged() {
+    let mut numbers = Numbers(0x0BAD_CAFE);
+    for round in 0..32 {
+        let protection = round % 16;
+        let mut image = image();
+        let guarded = protected_cells(protection, &image);
+        let mut unit = start(&image, protection).1;
+        let mut area = [0; 256];
+        for b in numbers.stream() {
+            assert_eq!(byte(&mut unit, &mut image, &mut area, b).refusal, 0);
+            assert!(unit.in_range());
+            assert_eq!(unit.protection, protection);
+        }
+        assert_eq!(protected_cells(protection, &image), guarded);
+    }
+}
+
+#[test]
+fn until_it_opens_the_image_stays_and_only_the_id_bytes_can_be_felt() {
+    let mut numbers = Numbers(0x5EED_5EED);
+    for _ in 0..32 {
+        let mut one = image();
+        // The same ID bytes, everything else another, still not blank.
+        let mut other: Vec<u8> = (0..20_480).map(|_| numbers.next(256) as u8).collect();
+        for address in [0xFFDFusize, 0xFFE3, 0xFFEB, 0xFFEF, 0xFFF3, 0xFFF7, 0xFFFB] {
+            other[address - 0xB000] = one[address - 0xB000];
+        }
+        other[20_476] = 0x00;
+        let (one_before, other_before) = (one.clone(), other.clone());
+        let mut one_unit: Unit = start(&one, 0).1;
+        let mut other_unit = start(&other, 0).1;
+        let (mut one_area, mut other_area) = ([0; 256], [0; 256]);
+        for b in numbers.stream() {
+            if one_unit.is_open() {
+                break;
+            }
+            let one_answer = byte(&mut one_unit, &mut one, &mut one_area, b);
+            let other_answer = byte(&mut other_unit, &mut other, &mut other_area, b);
+            assert_eq!(one_answer, other_answer);
+            assert_eq!(one_area, other_area);
+            assert_eq!(one_unit, other_unit);
+            assert_eq!(one, one_before);
+            assert_eq!(other, other_before);
+            if one_unit.is_open() {
+                assert_eq!(one_unit.phase, Phase::AtCommand);
+                assert_eq!((b, one_answer.reply_len), (0x37, 0));
+            }
+        }
+    }
+}
