@@ -2,3 +2,4 @@ pub mod Lists
 pub mod Blocks
 pub mod Image
 pub mod Effects
+pub mod Clauses

@@ -5,7 +5,8 @@ ghost use Prim.Native.Nat.{ℕ, _+_, _≤_, _<_};
 ghost use lib.ListN.{length};
 ghost use Rattle.flash.specs.Lists.{same};
 ghost use Rattle.flash.specs.Blocks.{block, part, holds, find, guarded, free, blockFrom, blockSize, pageAddress};
-ghost use Rattle.flash.specs.Image.{storedId, isBlank, pagePart, burn, freeFrom, permitted, written, program, erased, wiped, wipedFree, eraseBlock, eraseAll};
+ghost use Rattle.flash.specs.Image.{burn, freeFrom, permitted, erased, wiped, wipedFree};
+ghost use Rattle.flash.specs.Clauses.{BlockOfEnsures, PageEnsures, IdEnsures, BlankEnsures, ProgramEnsures, EraseEnsures, EraseAllEnsures};
 
 // What an address names: the number of its block and its place in the image, or nothing of the flash.
 pub enum Found {
@@ -31,7 +32,7 @@ fn held(from: u32, size: u32, address: u32) -> bool
 
 // The block of an address and the place in the image: each block is asked in turn.
 pub fn block_of(address: u32) -> Found
-    ensures { λ r. ⌜ r ≡ find part address ⌝ }
+    ensures { λ r. ⌜ BlockOfEnsures address r ⌝ }
 {
     if held(0x2000, 2048, address) {
         return Found::Inside(0, (address - 0x2000) as usize);
@@ -56,7 +57,7 @@ fn page_address(mid: u8, high: u8) -> u32
 
 // The page of 256 bytes as the part of the lent image itself; an empty part where it is outside, or the image has a wrong size.
 pub fn page(image: &[u8], mid: u8, high: u8) -> &[u8]
-    ensures { λ r. ⌜ now r ≡ pagePart part (now (image .entry)) mid high ⌝ }
+    ensures { λ r. ⌜ PageEnsures (now (image .entry)) mid high (now r) ⌝ }
 {
     if image.len() != IMAGE {
         return &image[..0];
@@ -69,7 +70,7 @@ pub fn page(image: &[u8], mid: u8, high: u8) -> &[u8]
 
 // The seven ID bytes; zeros where the image has a wrong size.
 pub fn id(image: &[u8]) -> [u8; 7]
-    ensures { λ r. ⌜ r ≡ storedId part (now (image .entry)) ⌝ }
+    ensures { λ r. ⌜ IdEnsures (now (image .entry)) r ⌝ }
 {
     if image.len() != IMAGE {
         return [0u8; 7];
@@ -87,7 +88,7 @@ pub fn id(image: &[u8]) -> [u8; 7]
 
 // The three bytes of the reset vector all hold FF.
 pub fn blank(image: &[u8]) -> bool
-    ensures { λ r. ⌜ r ≡ isBlank part (now (image .entry)) ⌝ }
+    ensures { λ r. ⌜ BlankEnsures (now (image .entry)) r ⌝ }
 {
     if image.len() != IMAGE {
         return false;
@@ -176,7 +177,7 @@ fn burn_bytes(bytes: &mut [u8], new: &[u8]) -> bool
 
 // Programs these bytes from an address on: true if each then equals its data, false if one differs or nothing may be written.
 pub fn program(image: &mut [u8], protection: u8, address: u32, new: &[u8]) -> bool
-    ensures { λ r. ⌜ written (now (image .exit)) r ≡ program part protection (now (image .entry)) address (now (new .entry)) ⌝ }
+    ensures { λ r. ⌜ ProgramEnsures (now (image .entry)) protection address (now (new .entry)) r (now (image .exit)) ⌝ }
 {
     if image.len() != IMAGE {
         return false;
@@ -230,7 +231,7 @@ fn wipe(image: &mut [u8], block: usize)
 
 // Erases the block of an address: true if it did, false if the address is outside or the block protected.
 pub fn erase(image: &mut [u8], protection: u8, address: u32) -> bool
-    ensures { λ r. ⌜ written (now (image .exit)) r ≡ eraseBlock part protection (now (image .entry)) address ⌝ }
+    ensures { λ r. ⌜ EraseEnsures (now (image .entry)) protection address r (now (image .exit)) ⌝ }
 {
     if image.len() != IMAGE {
         return false;
@@ -258,7 +259,7 @@ fn wipe_free(image: &mut [u8], protection: u8, block: usize)
 
 // Erases every block that is not protected.
 pub fn erase_all(image: &mut [u8], protection: u8)
-    ensures { λ _. ⌜ now (image .exit) ≡ eraseAll part protection (now (image .entry)) ⌝ }
+    ensures { λ _. ⌜ EraseAllEnsures (now (image .entry)) protection (now (image .exit)) ⌝ }
 {
     if image.len() != IMAGE {
         return;

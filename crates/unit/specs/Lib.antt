@@ -1,3 +1,4 @@
 pub mod Phases
 pub mod Model
 pub mod Range
+pub mod Clauses

@@ -5,8 +5,9 @@ ghost use Prim.Native.Nat.{ℕ};
 ghost use lib.ListN.{getD};
 ghost use Rattle.unit.specs.declared.Phase.the-variants.{Awake};
 ghost use Rattle.unit.specs.Phases.{positionOf};
-ghost use Rattle.unit.specs.Model.{begun, fresh, idle, whole, stateOf, state, commanded, withSrd, withSrd1, withRate, isOpen, standing};
-ghost use Rattle.unit.specs.Range.{positionFits, srdFits, srd1Fits, registersFit, settingsFit, inRange};
+ghost use Rattle.unit.specs.Model.{begun};
+ghost use Rattle.unit.specs.Range.{positionFits, srdFits, srd1Fits, registersFit, settingsFit};
+ghost use Rattle.unit.specs.Clauses.{FreshEnsures, IdleEnsures, OfEnsures, StateEnsures, InRangeEnsures, AtEnsures, AtCommandEnsures, WithSrdEnsures, WithSrd1Ensures, WithRateEnsures, IsOpenEnsures, IsStandingEnsures};
 
 // Awake at a command, or inside a packet: which one, and how many bytes have come since its command.
 pub enum Place {
@@ -98,14 +99,14 @@ impl Unit {
 
     // The fresh unit of an image.
     pub fn fresh(image: &[u8], inputs: Inputs) -> Unit
-        ensures { λ r. ⌜ r ≡ fresh (now (image .entry)) inputs ⌝ }
+        ensures { λ r. ⌜ FreshEnsures (now (image .entry)) inputs r ⌝ }
     {
         Unit::begun(flash::blank(image), inputs)
     }
 
     // The fresh unit of a non-blank image with protection 0.
     pub fn idle() -> Unit
-        ensures { λ r. ⌜ r ≡ idle ⌝ }
+        ensures { λ r. ⌜ IdleEnsures r ⌝ }
     {
         Unit::begun(false, Inputs { protection: 0 })
     }
@@ -139,7 +140,7 @@ impl Unit {
 
     // A unit put together from its parts.
     pub fn of(state: State, settings: Settings, collected: [u8; 259]) -> Unit
-        ensures { λ r. ⌜ r ≡ whole state settings collected ⌝ }
+        ensures { λ r. ⌜ OfEnsures state settings collected r ⌝ }
     {
         let phase = state.phase;
         let registers = state.registers;
@@ -152,7 +153,7 @@ impl Unit {
     }
 
     pub fn state(self) -> State
-        ensures { λ r. ⌜ r ≡ stateOf self ⌝ }
+        ensures { λ r. ⌜ StateEnsures self r ⌝ }
     {
         let phase = self.phase;
         let registers = self.registers;
@@ -164,7 +165,7 @@ impl Unit {
 
     // Every number of the record is in its range.
     pub fn in_range(self) -> bool
-        ensures { λ r. ⌜ r ≡ inRange self ⌝ }
+        ensures { λ r. ⌜ InRangeEnsures self r ⌝ }
     {
         let phase = self.phase;
         let registers = self.registers;
@@ -178,7 +179,7 @@ impl Unit {
 impl State {
     // A state with another phase, or with other registers at the end of a packet.
     pub fn at(self, phase: Phase) -> State
-        ensures { λ r. ⌜ r ≡ state phase (self .registers) ⌝ }
+        ensures { λ r. ⌜ AtEnsures self phase r ⌝ }
     {
         let registers = self.registers;
         State {
@@ -188,7 +189,7 @@ impl State {
     }
 
     pub fn at_command(registers: Registers) -> State
-        ensures { λ r. ⌜ r ≡ commanded registers ⌝ }
+        ensures { λ r. ⌜ AtCommandEnsures registers r ⌝ }
     {
         State {
             phase: Phase::Awake(Place::Command),
@@ -199,35 +200,35 @@ impl State {
 
 impl Registers {
     pub fn with_srd(mut self, srd: u8) -> Registers
-        ensures { λ r. ⌜ r ≡ withSrd self srd ⌝ }
+        ensures { λ r. ⌜ WithSrdEnsures self srd r ⌝ }
     {
         self.srd = srd;
         self
     }
 
     pub fn with_srd1(mut self, srd1: u8) -> Registers
-        ensures { λ r. ⌜ r ≡ withSrd1 self srd1 ⌝ }
+        ensures { λ r. ⌜ WithSrd1Ensures self srd1 r ⌝ }
     {
         self.srd1 = srd1;
         self
     }
 
     pub fn with_rate(mut self, rate: u8) -> Registers
-        ensures { λ r. ⌜ r ≡ withRate self rate ⌝ }
+        ensures { λ r. ⌜ WithRateEnsures self rate r ⌝ }
     {
         self.rate = rate;
         self
     }
 
     pub fn is_open(self) -> bool
-        ensures { λ r. ⌜ r ≡ isOpen self ⌝ }
+        ensures { λ r. ⌜ IsOpenEnsures self r ⌝ }
     {
         self.srd1 == Unit::MATCH
     }
 
     // SR4 or SR5 stands.
     pub fn is_standing(self) -> bool
-        ensures { λ r. ⌜ r ≡ standing self ⌝ }
+        ensures { λ r. ⌜ IsStandingEnsures self r ⌝ }
     {
         self.srd != Unit::READY
     }

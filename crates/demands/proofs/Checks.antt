@@ -1,0 +1,235 @@
+-- At a command, while closed: any byte but F5 is dropped or answered and leaves the unit closed; F5 and what follows it is stored up to its last byte,
+-- which opens the unit where it completes the right packet and leaves it closed where it completes another.
+use Prim.Native.Nat.{ℕ, zero, suc, _+_, _-_, _≤_, _<_}
+use native.Mathlib.Omega.{arith}
+use native.Mathlib.Decide.{ℕ-discrete}
+use mathlib.Core.Bool.{Bool, true, false, not, _||_, false≢true}
+use mathlib.Core.Logic.{_≢_, inl}
+use mathlib.Core.Path.{_≡_, refl, ap, ap₂, sym, _∙_, subst}
+use mathlib.Core.List.{List, [], _∷_, _++_}
+use lib.ListN.{length, take, drop, getD, replicate, length-append, length-replicate}
+use lib.Seq.{take-append-le, take-append-seam}
+use borrow.Author.Tests.{ne-eqb}
+use Rattle.packets.specs.Pieces.{Each as EachPiece, Packet, lone, check, packetBytes, Unfinished, right, joined}
+use Rattle.packets.specs.Readings.{Wrong}
+use Rattle.flash.specs.Lists.{Each, Bytes}
+use Rattle.flash.specs.Blocks.{find, holds, placeOf}
+use Rattle.flash.specs.Image.{byteAt}
+use Rattle.flash.proofs.Lists.{bytes-append}
+use Rattle.unit.specs.declared.Unit.{Unit as Port}
+use Rattle.unit.specs.declared.Registers.{Registers}
+use Rattle.unit.specs.declared.Phase.the-variants.{Awake}
+use Rattle.unit.specs.declared.Place.the-variants.{Command, IdCheck}
+use Rattle.unit.specs.Phases.{need, commandOf}
+use Rattle.unit.specs.Phases.Kind.{id-check}
+use Rattle.unit.specs.Model.{noBytes, withRate, withSrd1, isOpen}
+use Rattle.unit.proofs.ByteLists.{bytes-zeros}
+use Rattle.unit.proofs.Ranged.{Sound, in-range, settings-open}
+use Rattle.protocol.specs.Outcome.{Outcome}
+use Rattle.protocol.specs.Step.{step, run}
+use Rattle.protocol.specs.Rows.{Ready, Dropped, Partway, Ends, Kept, Row, Guarded, rightPacket}
+use Rattle.protocol.specs.Rows.Row.{after-F5}
+use Rattle.protocol.specs.Rows.Guarded.{drops-FF, drops-41, drops-49, drops-20, drops-A7, drops-50}
+use Rattle.protocol.proofs.RowsFront.{every-packet, front}
+use Rattle.protocol.proofs.RowsShort.{row-70, row-FB, row-B0-to-B4, row-00, closed-drops, unknown-drops}
+use Rattle.protocol.proofs.RowsCheck.{check-right, check-wrong}
+use Rattle.demands.specs.Record.{Open}
+use Rattle.demands.specs.Flash.{ids}
+use Rattle.demands.proofs.Calm.{View, Seen, After, ShutWithin, Passes, Comes, Opened, At, seen-shut, none, one, then}
+
+-- what holds of each of some numbers, and of a number that is none of them, holds of every number
+by-cases : (P : ℕ → Type 0) (b : ℕ) (cs : List ℕ) → Each P cs → (Each (λ (c : ℕ). b ≢ c) cs → P b) → P b
+by-cases P b [] each other = other tt
+by-cases P b (c ∷ cs) each other = go (ℕ-discrete b c) (λ n. by-cases P b cs (each .1) (λ others. other (n, others)))
+  where
+    go : Dec (b ≡ c) → (b ≢ c → P b) → P b
+    go (yes e) next = subst P (sym e) (each .0)
+    go (no n) next = next n
+
+-- at a command, with these registers and nothing collected
+abbrev commanding : Registers → View
+commanding r = record { phase = Awake Command; registers = r; collected = noBytes }
+
+-- a unit with such a view
+module _ {v : View} {u : Port} (a : At (Awake Command) v) (sound : Sound u) (seen : Seen v u) where
+  ready : Ready u
+  ready = record { at-command = seen .phase ∙ a .phase; ranged = in-range sound; room = sound .room }
+
+  closed : isOpen (u .registers) ≡ false
+  unfolding isOpen
+  closed = ne-eqb (u .registers .srd1) 0x0C (seen-shut (a .closed) seen)
+
+  not-blank : u .settings .blank ≡ false
+  not-blank = go (u .settings .blank) (isOpen (u .registers)) closed (settings-open (u .settings) (u .registers) (sound .settings))
+    where
+      go : (b o : Bool) → o ≡ false → (not b || o) ≡ true → b ≡ false
+      go true o e f = absurd (false≢true (sym e ∙ f))
+      go false o e f = refl
+
+  dropped : {img : List ℕ} {o : Outcome} → Dropped u img o → After img v [] o
+  dropped d = record { image = d .image; reply = d .reply; seen = subst (Seen v) (sym (d .unit)) seen }
+
+  ended : {img : List ℕ} {o : Outcome} (f : Registers → Registers) (said : Registers → List ℕ) → Ends u (f (u .registers)) (Kept img) (said (u .registers)) o
+      → After img (commanding (f (v .registers))) (said (v .registers)) o
+  ended f said e =
+      record {
+        image = e .image;
+        reply = e .reply ∙ ap said (seen .registers);
+        seen = record { phase = e .phase; registers = e .registers ∙ ap f (seen .registers); collected = e .collected };
+      }
+
+  -- up to the last byte of an ID packet the registers stay, so the unit stays closed
+  shut-inside : (img xs : List ℕ) → Row id-check 0xF5 xs → ShutWithin u img (0xF5 ∷ xs)
+  shut-inside img xs row zero h o = seen-shut (a .closed) seen o
+  shut-inside img xs row (suc j) h o =
+      seen-shut (a .closed) seen (ap (λ (r : Registers). r .srd1) (sym (front ready img row (inl refl) j (omega arith) .registers)) ∙ o)
+
+infixr 5 _also_
+_also_ : {A B : Type 0} → A → B → A × B
+x also y = (x, y)
+
+-- any byte but F5 leaves it at a command
+abbrev Leaves : List ℕ → View → ℕ → Type 0
+Leaves i v b = b ≢ 0xF5 → Comes i v (At (Awake Command)) (b ∷ [])
+
+module _ {i : List ℕ} {v : View} (a : At (Awake Command) v) where
+  drops : {b : ℕ} → ((u : Port) (img : List ℕ) → Ready u → isOpen (u .registers) ≡ false → Dropped u img (step u img b)) → Leaves i v b
+  drops law n = one v [] a (a .closed) (λ u img size sound seen. dropped a sound seen (law u img (ready a sound seen) (closed a sound seen)))
+
+  guarded : {b : ℕ} → Guarded b → Leaves i v b
+  guarded g = drops (λ u img ready shut. closed-drops ready img g shut)
+
+  answers : {b : ℕ} (f : Registers → Registers) (said : Registers → List ℕ) → f (v .registers) .srd1 ≡ v .registers .srd1
+      → ((u : Port) (img : List ℕ) → Ready u → Ends u (f (u .registers)) (Kept img) (said (u .registers)) (step u img b)) → Leaves i v b
+  answers f said e law n =
+      one (commanding (f (v .registers))) (said (v .registers)) (record { phase = refl; collected = refl; closed = λ o. a .closed (sym e ∙ o) }) (a .closed)
+      (λ u img size sound seen. ended a sound seen f said (law u img (ready a sound seen)))
+
+  rates : (n : ℕ) → n ≤ 4 → Leaves i v (0xB0 + n)
+  rates n h = answers (λ r. withRate r n) (λ r. (0xB0 + n) ∷ []) refl (λ u img ready. row-B0-to-B4 ready img n h)
+
+  pub lone-byte : (b : ℕ) → Leaves i v b
+  lone-byte b =
+      by-cases (Leaves i v) b
+      (0xFF ∷ 0x41 ∷ 0x49 ∷ 0x20 ∷ 0xA7 ∷ 0x50 ∷ 0x70 ∷ 0xF5 ∷ 0xFB ∷ 0xB0 ∷ 0xB1 ∷ 0xB2 ∷ 0xB3 ∷ 0xB4 ∷ 0x00 ∷ [])
+      (guarded drops-FF
+      also guarded drops-41
+      also guarded drops-49
+      also guarded drops-20
+      also guarded drops-A7
+      also guarded drops-50
+      also answers (λ r. r) (λ r. r .srd ∷ r .srd1 ∷ []) refl (λ u img ready. row-70 ready img)
+      also (λ n. absurd (n refl))
+      also answers (λ r. r) _ refl (λ u img ready. row-FB ready img)
+      also rates 0 (omega arith)
+      also rates 1 (omega arith)
+      also rates 2 (omega arith)
+      also rates 3 (omega arith)
+      also rates 4 (omega arith)
+      also answers (λ r. r) (λ r. []) refl (λ u img ready. row-00 ready img)
+      also tt)
+      (λ others. drops (λ u img ready shut. unknown-drops ready img b others))
+
+-- the image's right packet, by its ID bytes
+right-bytes : (img : List ℕ) → rightPacket img ≡ packetBytes (right (ids img))
+unfolding byteAt placeOf find holds
+right-bytes img = refl
+
+-- a packet that is broken off is the front of one that is not
+padded : (t : List ℕ) (n j : ℕ) → getD (t ++ replicate n 0x00) j 0 ≡ getD t j 0
+padded [] zero j = refl
+padded [] (suc n) zero = refl
+padded [] (suc n) (suc j) = padded [] n j
+padded (x ∷ t) n zero = refl
+padded (x ∷ t) n (suc j) = padded t n j
+
+abbrev filled : List ℕ → List ℕ
+filled t = t ++ replicate (4 + getD t 3 0 - length t) 0x00
+
+filled-row : (t : List ℕ) → Bytes t → length t < 4 + getD t 3 0 → Row id-check 0xF5 (filled t)
+unfolding need commandOf
+filled-row t y h =
+    let n : ℕ = 4 + getD t 3 0 - length t in
+    every-packet id-check (filled t) (bytes-append t (replicate n 0x00) y (bytes-zeros n))
+    (omega (arith, length-append t (replicate n 0x00), length-replicate {A = ℕ} n 0x00, padded t n 3))
+
+module _ {i : List ℕ} {v : View} (a : At (Awake Command) v) where
+  pub packet : (p : Packet) → Wrong i p → Comes i v (At (Awake Command)) (packetBytes p)
+  packet (lone b) w = lone-byte a b (w .0)
+  packet (check low mid high ds) w =
+      record {
+        view = commanding (withSrd1 (v .registers) 0x04);
+        said = [];
+        is = record { phase = refl; collected = refl; closed = λ o. omega arith };
+        leads = λ u img size same sound bytes seen.
+            record {
+              before = shut-inside a sound seen img (low ∷ mid ∷ high ∷ length ds ∷ ds) (after-F5 {ds = ds} (w .0));
+              after = ended a sound seen (λ r. withSrd1 r 0x04) (λ r. [])
+                  (check-wrong (ready a sound seen) img low mid high ds (w .0) size (not-blank a sound seen)
+                  (λ e. w .1 (same-packet (e ∙ (right-bytes img ∙ ap (λ (i : List ℕ). packetBytes (right i)) same)))));
+            };
+      }
+    where
+      same-packet : packetBytes (check low mid high ds) ≡ packetBytes (right i) → check low mid high ds ≡ right i
+      same-packet e = cc
+
+  pub right-packet : Comes i v Opened (packetBytes (right i))
+  right-packet =
+      record {
+        view = commanding (withSrd1 (v .registers) 0x0C);
+        said = [];
+        is = refl;
+        leads = λ u img size same sound bytes seen.
+            subst (λ (i : List ℕ). Passes u img (packetBytes (right i)) (commanding (withSrd1 (v .registers) 0x0C)) []) same
+            (record {
+              before = shut-inside a sound seen img _ (after-F5 {ds = ids img} (omega arith));
+              after = ended a sound seen (λ r. withSrd1 r 0x0C) (λ r. [])
+                  (subst (λ (l : List ℕ). Ends u (withSrd1 (u .registers) 0x0C) (Kept img) [] (run u img l)) (right-bytes img)
+                  (check-right (ready a sound seen) img size (not-blank a sound seen)));
+            });
+      }
+
+pub packets : {i : List ℕ} {v : View} (ps : List Packet) → EachPiece (Wrong i) ps → At (Awake Command) v → Comes i v (At (Awake Command)) (joined packetBytes ps)
+packets [] w a = none a
+packets (p ∷ ps) w a = then (packet a p (w .0)) (λ x b. packets ps (w .1) b)
+
+-- where a packet is broken off: nothing but the phase and the collected bytes has changed since its command
+abbrev pub brokenOff : View → List ℕ → View
+brokenOff v [] = v
+brokenOff v (b ∷ t) = record { phase = Awake (IdCheck (length t)); registers = v .registers; collected = t ++ drop (length t) noBytes }
+
+broken-off : {v : View} {u : Port} → At (Awake Command) v → Sound u → Seen v u → (img t : List ℕ) → Bytes t → length t < 4 + getD t 3 0
+    → Passes u img (0xF5 ∷ t) (brokenOff v (0xF5 ∷ t)) []
+broken-off {v} {u} a sound seen img t y h =
+    let pad : List ℕ = replicate (4 + getD t 3 0 - length t) 0x00 in
+    let row = filled-row t y h in
+    let long : length t < length (filled t) = omega (arith, length-append t pad, length-replicate {A = ℕ} (4 + getD t 3 0 - length t) 0x00) in
+    let whole : take (length t) (filled t) ≡ t = take-append-seam t pad in
+    let p = subst (λ (l : List ℕ). Partway u img id-check (filled t) (length t) (run u img (0xF5 ∷ l))) whole (front (ready a sound seen) img row (inl refl) (length t) long) in
+    record {
+      before = λ k l.
+          subst (λ (xs : List ℕ). Open (run u img xs .unit) → ⊥) (take-append-le k (0xF5 ∷ t) pad (omega arith))
+          (shut-inside a sound seen img (filled t) row k (omega arith));
+      after =
+          record {
+            image = p .image;
+            reply = p .reply;
+            seen =
+                record {
+                  phase = p .phase;
+                  registers = p .registers ∙ seen .registers;
+                  collected = p .collected ∙ ap₂ (λ (xs ys : List ℕ). xs ++ drop (length t) ys) whole (seen .collected ∙ a .collected);
+                };
+          };
+    }
+
+pub unfinished : {i : List ℕ} {v : View} (t : List ℕ) → Unfinished t → At (Awake Command) v → Comes i v (λ (w : View). w ≡ brokenOff v t) t
+unfinished [] k a = none refl
+unfinished {i} {v} (b ∷ t) k a =
+    subst (λ (b : ℕ). Comes i v (λ (w : View). w ≡ brokenOff v (b ∷ t)) (b ∷ t)) (sym (k .0))
+    (record {
+      view = brokenOff v (0xF5 ∷ t);
+      said = [];
+      is = refl;
+      leads = λ u img size same sound bytes seen. broken-off a sound seen img t (bytes .1) (k .1);
+    })

@@ -1,0 +1,146 @@
+-- A history's trace is the run of its bytes, so what the specification says of a run, of a packet's row and of a byte that changes the image holds at each position of the trace.
+use Prim.Native.Nat.{ℕ, zero, suc, _+_, _-_, _≤_, _<_}
+use native.Mathlib.Omega.{arith}
+use mathlib.Core.Path.{_≡_, refl, ap, sym, _∙_, subst, subst⁻¹}
+use mathlib.Core.Logic.{inr}
+use mathlib.Core.List.{List, [], _∷_, _++_}
+use lib.ListN.{length, getD, take, drop, length-append, length-drop}
+use lib.Seq.{length-take-le, take-take}
+use Rattle.flash.proofs.Lists.{bytes-take, bytes-append}
+use Rattle.unit.specs.declared.Unit.{Unit as Port}
+use Rattle.unit.specs.declared.Registers.{Registers}
+use Rattle.unit.specs.declared.Inputs.{Inputs}
+use Rattle.unit.specs.Phases.{Kind, commandOf, need, positionOf}
+use Rattle.unit.specs.Phases.Kind.{id-check}
+use Rattle.unit.specs.Phases.Position.{within}
+use Rattle.unit.specs.Model.{isOpen}
+use Rattle.unit.proofs.Positions.{position-inside}
+use Rattle.unit.proofs.Ranged.{Sound, in-range}
+use Rattle.unit.proofs.Builders.{fresh-phase}
+use Rattle.unit.proofs.Inside.{open-inside, few-collected}
+use Rattle.protocol.specs.Outcome.{Outcome}
+use Rattle.protocol.specs.Step.{step, run}
+use Rattle.protocol.specs.Calls.{answered, ByteEnsures}
+use Rattle.protocol.specs.Rows.{Row}
+use Rattle.protocol.specs.Changes.{Carried, Done, Change as Changed}
+use Rattle.protocol.specs.Changes.Carried.{page, bytes, block, all}
+use Rattle.protocol.specs.Changes.Change.{none as no-change, last as last-byte}
+use Rattle.protocol.proofs.Refusals.{all-right, byte-done}
+use Rattle.protocol.proofs.RowsFront.{front, every-packet}
+use Rattle.protocol.proofs.RowsMay.{bit-set}
+use Rattle.protocol.proofs.Protected.{protected-run}
+use Rattle.protocol.proofs.Changes.{changes}
+use Rattle.demands.specs.Flash.{InBlock, Protected}
+use Rattle.demands.specs.Histories.{Call, Entry, History, unitAfter, imageAfter, taken, At}
+use Rattle.demands.specs.Changes.{Begins, Carries, Permitted, bytesTo, FullEffect, Change}
+use Rattle.demands.specs.Changes.Change.{none, last}
+use Rattle.demands.proofs.Traces.{at-under, taken-long, image-next, image-onward}
+use Rattle.demands.proofs.Bridge.{start-fresh, stepped, start-sound, image-is, sound-at, size-at, protection-at, entry-is}
+use Rattle.demands.proofs.Records.{open-is, block-is}
+use Rattle.demands.proofs.Effects.{permitted-row, begins-ready, packet-effect, carried-permitted}
+use Rattle.demands.proofs.Pending.{Pending, pending, pending-next}
+
+-- a packet that writes is no ID check
+writes : {p : ℕ} {img xs new : List ℕ} {k : Kind} → Carried p img xs k new → k ≡ id-check → ⊥
+writes (page m) e = let z : _≡_ {A = ℕ} 0 1 = cc in omega arith
+writes (bytes m) e = let z : _≡_ {A = ℕ} 0 1 = cc in omega arith
+writes (block c m) e = let z : _≡_ {A = ℕ} 0 1 = cc in omega arith
+writes (all c) e = let z : _≡_ {A = ℕ} 0 1 = cc in omega arith
+
+module _ {img : List ℕ} {inputs : Inputs} {cs : List Call} (h : History img inputs cs) where
+  abbrev u₀ : Port
+  u₀ = h .started .unit
+
+  abbrev es : List Entry
+  es = h .trace
+
+  abbrev p : ℕ
+  p = inputs .protection
+
+  -- "After each byte, the reply, both status registers, the next unit and the whole image are those of the protocol specification":
+  -- whichever call brought the byte, what the specification's byte call leaves of the unit and the image before it
+  pub each-byte : (k : ℕ) (e : Entry) → At (h .trace) k e → (area : List ℕ) → 256 ≤ length area
+      → ByteEnsures (unitAfter (h .started .unit) (h .trace) k) (imageAfter img (h .trace) k) area (e .byte)
+      (record { refusal = 0; unit = e .unit; taken = 1; «reply_len» = length (e .reply) }) (e .image) (e .reply ++ drop (length (e .reply)) area)
+  each-byte k e a area r =
+      let u : Port = unitAfter u₀ es k in
+      let now : List ℕ = imageAfter img es k in
+      ap (λ (o : Outcome). answered o 1 area) (sym (entry-is h a .leads))
+      ∙ sym (byte-done u now area (e .byte) (all-right u now area (size-at h k) r (in-range (sound-at h k))))
+
+  -- "no stream changes a protected block"
+  pub protected-kept : {i x : ℕ} → Protected (inputs .protection) i → InBlock i x → (k : ℕ) → getD (imageAfter img (h .trace) k) x 0 ≡ getD img x 0
+  protected-kept {i} {x} g b k =
+      let w = block-is i x .0 b in
+      let s = bit-set (u₀ .settings .protection) i (subst⁻¹ (λ (q : ℕ). Protected q i) (protection-at h 0) g) in
+      ap (λ (l : List ℕ). getD l x 0) (image-is h k) ∙ protected-run i x (w .0) (w .1) u₀ s img (take k (taken es)) .byte
+
+  -- "Every permitted program or erase takes its full effect at its packet's last byte."
+  module _ (j k : ℕ) (after : j ≤ k) (under : k < length (h .trace)) (b : Begins (unitAfter (h .started .unit) (h .trace) j)) (m : Permitted (inputs .protection) (bytesTo (h .trace) j k)) where
+    long : length (bytesTo es j k) ≡ suc k - j
+    long = length-take-le (suc k - j) (drop j (taken es)) (omega (arith, length-drop j (taken es), taken-long es))
+
+    -- i of its bytes but the last have come
+    kept : (i : ℕ) → i < suc k - j → imageAfter img es (j + i) ≡ imageAfter img es j
+    kept zero l = let e : j + 0 ≡ j = omega arith in ap (imageAfter img es) e
+    kept (suc i) l =
+        let r = permitted-row m in
+        let n : length (bytesTo es j k) ≡ suc (length (r .rest)) = ap length (r .whole) in
+        let front-of : take (suc i) (drop j (taken es)) ≡ r .command ∷ take i (r .rest) =
+        sym (take-take (suc i) (suc k - j) (drop j (taken es)) (omega arith)) ∙ ap (take (suc i)) (r .whole) in
+        image-onward (stepped h) j (suc i) (j + suc i) refl
+        ∙ (ap (λ (l : List ℕ). run (unitAfter u₀ es j) (imageAfter img es j) l .image) front-of
+        ∙ front (begins-ready b (sound-at h j)) (imageAfter img es j) (r .row) (inr (open-is (unitAfter u₀ es j) .0 (b .opened))) i (omega (arith, long)) .image)
+
+    pub full-effect : FullEffect (inputs .protection) img (h .trace) j k
+    full-effect =
+        record {
+          before = λ i l q. let e : j + (i - j) ≡ i = omega arith in ap (imageAfter img es) (sym e) ∙ kept (i - j) (omega arith);
+          at-last =
+              subst⁻¹ (Carries p (imageAfter img es j) (bytesTo es j k)) (image-onward (stepped h) j (suc k - j) (suc k) (omega arith))
+              (subst (λ (q : ℕ). Carries q (imageAfter img es j) (bytesTo es j k) (run (unitAfter u₀ es j) (imageAfter img es j) (bytesTo es j k) .image)) (protection-at h j)
+              (packet-effect b (sound-at h j) (imageAfter img es j) (size-at h j) (subst⁻¹ (λ (q : ℕ). Permitted q (bytesTo es j k)) (protection-at h j) m)));
+        }
+
+  -- a byte at which the specification carries a packet out ends a permitted packet
+  ends-packet : (k : ℕ) (e : Entry) → At es k e → {new : List ℕ} → Done (unitAfter u₀ es k) (imageAfter img es k) (e .byte) new → Change p u₀ img es k (e .image)
+  ends-packet k e a d =
+      let v : Port = unitAfter u₀ es k in
+      let q : Kind = d .kind in
+      let n : ℕ = d .received in
+      let xs : List ℕ = take n (v .collected) ++ e .byte ∷ [] in
+      let s : Sound v = sound-at h k in
+      let f : positionOf (v .phase) ≡ within q n = ap positionOf (d .place) ∙ position-inside q n in
+      let w : Pending u₀ es k q n = pending (stepped h) (start-sound h) (ap (λ (x : Port). x .phase) (start-fresh h) ∙ fresh-phase img inputs) k (omega (arith, at-under a)) q n f in
+      let long : length xs ≡ need q xs =
+      length-append (take n (v .collected)) (e .byte ∷ [])
+      ∙ (omega (arith, length-take-le n (v .collected) (omega (arith, few-collected s f, s .room)), d .last)) in
+      let row : Row q (commandOf q) xs =
+      every-packet q xs (bytes-append (take n (v .collected)) (e .byte ∷ []) (bytes-take n (v .collected) (s .bytes)) (entry-is h a .small, tt)) long in
+      let count : suc k - w .from ≡ suc (suc n) = omega (arith, w .long) in
+      let whole : bytesTo es (w .from) k ≡ commandOf q ∷ xs =
+      ap (λ (i : ℕ). take i (drop (w .from) (taken es))) count ∙ pending-next w a in
+      let m : Permitted p (bytesTo es (w .from) k) =
+      subst⁻¹ (Permitted p) whole (subst (λ (z : ℕ). Permitted z (commandOf q ∷ xs)) (protection-at h k) (carried-permitted (d .carried) row)) in
+      let b : Begins (unitAfter u₀ es (w .from)) =
+      record {
+        at-command = w .at-command;
+        opened = open-is (unitAfter u₀ es (w .from)) .1 (ap isOpen (sym (w .registers)) ∙ open-inside s f (writes (d .carried)));
+        ready = ap (λ (r : Registers). r .srd) (sym (w .registers)) ∙ d .ready;
+      } in
+      let under : w .from ≤ k = omega (arith, w .long) in
+      let full = full-effect (w .from) k under (at-under a) b m in
+      last (w .from) under b
+      (subst⁻¹ (λ (l : List ℕ). Carries p l (bytesTo es (w .from) k) (e .image)) (full .before k under (omega arith))
+      (subst (Carries p (imageAfter img es (w .from)) (bytesTo es (w .from) k)) (image-next img a) (full .at-last)))
+
+  -- "Nothing else changes the image": a byte leaves it as it was, or is the last of a permitted program or erase, which has its effect
+  pub nothing-else : (k : ℕ) (e : Entry) → At (h .trace) k e → Change (inputs .protection) (h .started .unit) img (h .trace) k (e .image)
+  nothing-else k e a = go (changes (unitAfter u₀ es k) (imageAfter img es k) (e .byte))
+    where
+      left : step (unitAfter u₀ es k) (imageAfter img es k) (e .byte) .image ≡ e .image
+      left = ap (λ (o : Outcome). o .image) (entry-is h a .leads)
+
+      go : Changed (unitAfter u₀ es k) (imageAfter img es k) (e .byte) (step (unitAfter u₀ es k) (imageAfter img es k) (e .byte) .image) → Change p u₀ img es k (e .image)
+      go (no-change q) = none (sym left ∙ q)
+      go (last-byte d) = ends-packet k e a d
