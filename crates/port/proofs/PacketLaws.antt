@@ -19,7 +19,7 @@ use Rattle.unit.specs.Phases.Kind.{page-read, page-program, unit-program, block
 use Rattle.unit.specs.Model.{whole, state, commanded, withSrd, withSrd1, noBytes, longer, ended, standing}
 use Rattle.unit.proofs.Lengths.{need-next}
 use Rattle.protocol.specs.Outcome.{Outcome, says, quiet}
-use Rattle.protocol.specs.Endings.{pageReply, programmedBy, programs, erases, rightId, judged, finished}
+use Rattle.protocol.specs.Endings.{pageReply, programmedBy, programs, erases, rightId, isRight, judged, finished}
 use Rattle.protocol.specs.Step.{body, completes, inPacket}
 use Rattle.protocol.proofs.Steps.{packet-last, packet-more, body-stored}
 use Rattle.port.specs.Parts.{carries, unconfirmed}
@@ -135,5 +135,5 @@ unfolding judged
 judged-blank blank img xs e = rw e
 
 pub judged-by : (blank : Bool) (img xs : List ℕ) (q : Bool) → blank ≡ false → same xs (rightId img) ≡ q → cond q 0x0C 0x04 ≡ judged blank img xs
-unfolding judged
+unfolding judged isRight
 judged-by blank img xs q e f = rw (e, f)

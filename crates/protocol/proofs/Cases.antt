@@ -8,7 +8,6 @@ use mathlib.Core.List.{List, [], _∷_}
 use lib.ListN.{length, getD}
 use lib.Dec.{leb, eqb}
 use borrow.Author.Tests.{eqb-true, eqb-false, leb-true, not-false}
-use Rattle.flash.specs.Lists.{same}
 use Rattle.flash.specs.Blocks.{part, sized, find, free}
 use Rattle.flash.specs.Image.{Written, pagePart, permitted, program, eraseBlock, eraseAll}
 use Rattle.flash.proofs.Lists.{and-both, cond-elim}
@@ -29,7 +28,7 @@ use Rattle.unit.proofs.Positions.{phase-inside}
 use Rattle.protocol.specs.Outcome.{Outcome, says, quiet}
 use Rattle.protocol.specs.Commands.{Command as Meaning, commands, lookup, meaning, needsOpen, versionBytes, effect, dropped, commanded}
 use Rattle.protocol.specs.Commands.Command.{begin, clear, status, version, time, unknown, rate}
-use Rattle.protocol.specs.Endings.{leaves, pageReply, bankEnd, programmedBy, programs, erases, rightId, judged, finished}
+use Rattle.protocol.specs.Endings.{leaves, pageReply, bankEnd, programmedBy, programs, erases, isRight, judged, finished}
 use Rattle.protocol.specs.Step.{wakes, asleep, body, completes, inPacket, stepAt, step}
 use Rattle.protocol.specs.Changes.{Permitted, Carried, Done, Change}
 use Rattle.protocol.specs.Changes.Carried.{page, bytes, block, all}
@@ -199,7 +198,7 @@ module _ (u : Port) (img : List ℕ) (b : ℕ) where
   packet-ends block-erase n e h = ending-erases _ _ (λ r c. erase-change _ _ (λ s m. done block-erase n e h r s (block c m)))
   packet-ends erase-all n e h = ending-erases _ _ (λ r c. erase-all-change _ (λ s. done erase-all n e h r s (all c)))
   packet-ends id-check n e h =
-      let right : Bool = same (body n u b) (rightId img) in
+      let right : Bool = isRight img (body n u b) in
       says-and-ends _ [] (srd1-set _ (judged-fits (u .settings .blank || right)) (blank-opens (u .settings .blank) right)) (omega arith)
 
   -- a command byte that is taken

@@ -7,7 +7,6 @@ use mathlib.Core.Path.{_≡_, refl, ap, sym, _∙_, subst}
 use mathlib.Core.List.{List, [], _∷_, map}
 use lib.ListN.{length}
 use borrow.Author.Tests.{eqb-true}
-use Rattle.flash.specs.Lists.{same}
 use Rattle.flash.specs.Blocks.{part}
 use Rattle.flash.specs.Image.{byteAt, idAddresses, storedId}
 use Rattle.flash.proofs.Lists.{same-true, same-refl}
@@ -18,7 +17,7 @@ use Rattle.unit.specs.Phases.{positionOf}
 use Rattle.unit.specs.Range.{positionFits, registersFit, inRange}
 use Rattle.unit.proofs.Ranged.{and-both, settings-open}
 use Rattle.protocol.specs.Outcome.{quiet}
-use Rattle.protocol.specs.Endings.{rightId, judged, finished}
+use Rattle.protocol.specs.Endings.{rightId, isRight, judged, finished}
 use Rattle.protocol.specs.Step.{run}
 use Rattle.protocol.specs.Rows.{Ready, Ends, Kept, rightPacket}
 use Rattle.protocol.specs.Rows.Row.{after-F5}
@@ -30,11 +29,13 @@ right-is : (img : List ℕ) → length img ≡ 20480 → 0xF5 ∷ rightId img �
 unfolding rightId storedId
 right-is img size = rw (true-sized part img size)
 
-not-same : (xs ys : List ℕ) → xs ≢ ys → same xs ys ≡ false
-not-same xs ys n = go (same xs ys) refl
+-- only those bytes are right
+not-right : (img xs : List ℕ) → xs ≢ rightId img → isRight img xs ≡ false
+unfolding isRight
+not-right img xs n = go (isRight img xs) refl
   where
-    go : (t : Bool) → same xs ys ≡ t → same xs ys ≡ false
-    go true e = absurd (n (same-true xs ys e))
+    go : (t : Bool) → isRight img xs ≡ t → isRight img xs ≡ false
+    go true e = absurd (n (same-true xs (rightId img) e))
     go false e = e
 
 -- SRD1 of a unit in range that started blank
@@ -67,11 +68,11 @@ module _ {u : Port} (ready : Ready u) (img : List ℕ) (low mid high : ℕ) (ds 
       → Ends u (withSrd1 (u .registers) 0x04) (Kept img) [] (run u img (0xF5 ∷ low ∷ mid ∷ high ∷ length ds ∷ ds))
   unfolding judged
   check-wrong size blank n =
-      checked 0x04 (rw (blank, not-same (low ∷ mid ∷ high ∷ length ds ∷ ds) (rightId img) (λ e. n (ap (λ (l : List ℕ). 0xF5 ∷ l) e ∙ right-is img size))))
+      checked 0x04 (rw (blank, not-right img (low ∷ mid ∷ high ∷ length ds ∷ ds) (λ e. n (ap (λ (l : List ℕ). 0xF5 ∷ l) e ∙ right-is img size))))
 
 -- P16: otherwise SRD1 becomes 0C if the address is 00FFDF, n is 7 and the bytes equal the seven ID bytes now in the image
 pub check-right : {u : Port} → Ready u → (img : List ℕ) → length img ≡ 20480 → u .settings .blank ≡ false → Ends u (withSrd1 (u .registers) 0x0C) (Kept img) [] (run u img (rightPacket img))
-unfolding judged rightId storedId
+unfolding judged isRight rightId storedId
 check-right ready img size blank =
     checked ready img 0xDF 0xFF 0x00 (map (byteAt part img) idAddresses) (omega arith) 0x0C
     (rw (blank, true-sized part img size, same-refl (0xDF ∷ 0xFF ∷ 0x00 ∷ 0x07 ∷ map (byteAt part img) idAddresses)))

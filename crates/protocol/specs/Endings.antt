@@ -60,9 +60,13 @@ erases u img confirm w =
 unfoldable pub rightId : List ℕ → List ℕ
 rightId img = 0xDF ∷ 0xFF ∷ 0x00 ∷ 0x07 ∷ storedId part img
 
+-- what followed F5 is what follows it in the right ID packet
+unfoldable pub isRight : List ℕ → List ℕ → Bool
+isRight img xs = same xs (rightId img)
+
 -- SRD1 after an ID check: a unit that started blank stays 0C; else 0C if right, 04 if not
 unfoldable pub judged : Bool → List ℕ → List ℕ → ℕ
-judged blank img xs = cond (blank || same xs (rightId img)) 0x0C 0x04
+judged blank img xs = cond (blank || isRight img xs) 0x0C 0x04
 
 unfoldable pub finished : Kind → Port → List ℕ → List ℕ → Outcome
 finished page-read u img xs =
