@@ -21,7 +21,7 @@ use Rattle.unit.specs.Phases.{commandOf, need}
 use Rattle.unit.specs.Model.{inputs, begun, fresh, phased, longer, ended, isOpen}
 use Rattle.unit.specs.Range.{packetFits, positionFits, srdFits, srd1Fits, registersFit, settingsFit, inRange}
 use Rattle.protocol.specs.Commands.{commands, meaning, needsOpen, effect, dropped, commanded}
-use Rattle.protocol.specs.Endings.{rightId, judged, finished}
+use Rattle.protocol.specs.Endings.{rightId, isRight, judged, finished}
 use Rattle.protocol.specs.Step.{wakes, asleep, body, completes, inPacket, stepAt, step}
 use Rattle.protocol.specs.Calls.{refusal, byteCall, runCall}
 use Rattle.protocol.specs.Sessions.{image}
@@ -76,11 +76,11 @@ history img p bs size h e =
     history-exists img (inputs p) (calls bs) size h (bytes-by (replicate 16 0x00 ++ (0xB0 ∷ [])) refl, (bytes-by (0x70 ∷ []) refl, (bytes-by bs e, tt)))
 
 right-taken : taken (entriesOf 0 (fresh image (inputs 0)) image (calls right)) ≡ woken right
-unfolding calls right image sized holds find placeOf byteAt storedId isBlank begun fresh phased longer ended isOpen commandOf need packetFits positionFits srdFits srd1Fits registersFit settingsFit inRange commands meaning needsOpen effect dropped commanded rightId judged finished wakes asleep body completes inPacket stepAt step refusal byteCall runCall
+unfolding calls right image sized holds find placeOf byteAt storedId isBlank begun fresh phased longer ended isOpen commandOf need packetFits positionFits srdFits srd1Fits registersFit settingsFit inRange commands meaning needsOpen effect dropped commanded rightId isRight judged finished wakes asleep body completes inPacket stepAt step refusal byteCall runCall
 right-taken = refl
 
 wrong-taken : taken (entriesOf 0 (fresh image (inputs 0)) image (calls wrong)) ≡ woken wrong
-unfolding calls wrong image sized holds find placeOf byteAt storedId isBlank begun fresh phased longer ended isOpen commandOf need packetFits positionFits srdFits srd1Fits registersFit settingsFit inRange commands meaning needsOpen effect dropped commanded rightId judged finished wakes asleep body completes inPacket stepAt step refusal byteCall runCall
+unfolding calls wrong image sized holds find placeOf byteAt storedId isBlank begun fresh phased longer ended isOpen commandOf need packetFits positionFits srdFits srd1Fits registersFit settingsFit inRange commands meaning needsOpen effect dropped commanded rightId isRight judged finished wakes asleep body completes inPacket stepAt step refusal byteCall runCall
 wrong-taken = refl
 
 -- it opens at the 29th byte taken, the twelfth of the run's thirteen; the refused call took none
