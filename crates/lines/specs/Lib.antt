@@ -1,0 +1,2 @@
+pub mod Ascii
+pub mod Text
