@@ -247,9 +247,16 @@ impl Session {
             }
         }
         if replies != self.replies {
+            let told = |replies: &[(usize, Vec<u8>)]| -> Vec<String> {
+                replies
+                    .iter()
+                    .map(|(n, r)| format!("{n}: {r:02X?}"))
+                    .collect()
+            };
             return Some(format!(
-                "replies {replies:02X?} and not {:02X?}",
-                self.replies
+                "replies {:?} and not {:?}",
+                told(&replies),
+                told(&self.replies)
             ));
         }
         let registers = (answer.record[3], answer.record[4]);
