@@ -4,6 +4,8 @@ use native.Mathlib.Omega.{arith}
 use mathlib.Core.Bool.{Bool, true, false, false≢true}
 use mathlib.Core.Path.{_≡_, refl, ap, sym, _∙_, subst⁻¹}
 use mathlib.Core.Logic.{_≢_, _⊎_, inl, inr}
+use lib.Dec.{eqb}
+use borrow.Author.Tests.{eqb-true, eqb-false}
 use mathlib.Core.List.{List}
 use lib.ListN.{length}
 use Rattle.unit.specs.declared.Unit.{Unit as Port}
@@ -14,7 +16,7 @@ use Rattle.protocol.specs.Calls.{startRefusal, refusal, Left, refused, StartEns
 use Rattle.protocol.specs.Reasons.{StartReason, Reason}
 use Rattle.protocol.specs.Reasons.StartReason.{fine as start-fine, image as start-image, protection}
 use Rattle.protocol.specs.Reasons.Reason.{fine, image, room, range}
-use Rattle.protocol.proofs.Refusals.{start-reason, start-exactly, start-number, start-done, start-refused, reason, exactly, byte-number, run-number, byte-refused, run-refused}
+use Rattle.protocol.proofs.Refusals.{start-reason, start-exactly, start-number, start-done, start-refused, reason, exactly, byte-number, run-number, byte-done, byte-refused, run-refused}
 use Rattle.demands.specs.Record.{InRange, Idle, Fresh}
 use Rattle.demands.specs.Flash.{Blank}
 use Rattle.demands.specs.Histories.{Call, areaOf, Entry, History}
@@ -149,6 +151,22 @@ module _ (u : Port) (img area : List ℕ) where
   -- the same of a run, of no bytes too
   pub run-exact : (bytes : List ℕ) (l : Left) → RunEnsures u img area bytes (l .answer) (l .image) (l .area) → Exact u img area l
   run-exact bytes l q = exact l (ap (λ (x : Left). x .answer .refusal) q ∙ run-number u img area bytes) (λ f. q ∙ run-refused u img area bytes f)
+
+  -- a byte call takes its byte exactly where it is not refused
+  pub byte-takes : (b : ℕ) (l : Left) → ByteEnsures u img area b (l .answer) (l .image) (l .area)
+      → ((l .answer .refusal ≡ 0) × (l .answer .taken ≡ 1)) ⊎ ((l .answer .refusal ≢ 0) × (l .answer .taken ≡ 0))
+  byte-takes b l q = go (eqb (l .answer .refusal) 0) refl
+    where
+      number : l .answer .refusal ≡ refusal u img area
+      number = ap (λ (x : Left). x .answer .refusal) q ∙ byte-number u img area b
+
+      go : (t : Bool) → eqb (l .answer .refusal) 0 ≡ t → ((l .answer .refusal ≡ 0) × (l .answer .taken ≡ 1)) ⊎ ((l .answer .refusal ≢ 0) × (l .answer .taken ≡ 0))
+      go true t =
+          let e : l .answer .refusal ≡ 0 = eqb-true (l .answer .refusal) 0 t in
+          inl (e, ap (λ (x : Left). x .answer .taken) (q ∙ byte-done u img area b (sym number ∙ e)))
+      go false t =
+          let n : l .answer .refusal ≢ 0 = eqb-false (l .answer .refusal) 0 t in
+          inr (n, ap (λ (x : Left). x .answer .taken) (q ∙ byte-refused u img area b (λ z. n (number ∙ z))))
 
 -- in a history every image has its size and every unit is in range, so that only the reply room is left to refuse
 went-admitted : {m : ℕ} {u : Port} {img : List ℕ} {cs : List Call} {ls : List Left} {es : List Entry} → Went m u img cs ls es → EachAdmitted u img cs ls

@@ -30,13 +30,14 @@ use Rattle.protocol.proofs.RowsFront.{front, every-packet}
 use Rattle.protocol.proofs.RowsMay.{bit-set}
 use Rattle.protocol.proofs.Protected.{protected-run}
 use Rattle.protocol.proofs.Changes.{changes}
+use Rattle.demands.specs.Record.{InRange}
 use Rattle.demands.specs.Flash.{InBlock, Protected}
 use Rattle.demands.specs.Histories.{Call, Entry, History, unitAfter, imageAfter, taken, At}
 use Rattle.demands.specs.Changes.{Begins, Carries, Permitted, bytesTo, FullEffect, Change}
 use Rattle.demands.specs.Changes.Change.{none, last}
 use Rattle.demands.proofs.Traces.{at-under, taken-long, image-next, image-onward}
 use Rattle.demands.proofs.Bridge.{start-fresh, stepped, start-sound, image-is, sound-at, size-at, protection-at, entry-is}
-use Rattle.demands.proofs.Records.{open-is, block-is}
+use Rattle.demands.proofs.Records.{open-is, in-range as range-is, block-is}
 use Rattle.demands.proofs.Effects.{permitted-row, begins-ready, packet-effect, carried-permitted}
 use Rattle.demands.proofs.Pending.{Pending, pending, pending-next}
 
@@ -56,6 +57,10 @@ module _ {img : List ℕ} {inputs : Inputs} {cs : List Call} (h : History img in
 
   abbrev p : ℕ
   p = inputs .protection
+
+  -- every unit of a history is in range: the fresh one, and the one after each byte
+  pub always-in-range : (k : ℕ) → InRange (unitAfter (h .started .unit) (h .trace) k)
+  always-in-range k = range-is (unitAfter u₀ es k) .1 (in-range (sound-at h k))
 
   -- "After each byte, the reply, both status registers, the next unit and the whole image are those of the protocol specification":
   -- whichever call brought the byte, what the specification's byte call leaves of the unit and the image before it

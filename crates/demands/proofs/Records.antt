@@ -8,12 +8,13 @@ use mathlib.Core.List.{List, [], _∷_}
 use lib.ListN.{length, getD, take}
 use lib.Dec.{ltb, eqb}
 use borrow.Author.Tests.{ltb-true, leb-true, eqb-true, lt-ltb, le-leb, eq-eqb}
-use Rattle.flash.specs.declared.Found.the-variants.{Inside}
+use Rattle.flash.specs.declared.Found.{Found}
+use Rattle.flash.specs.declared.Found.the-variants.{Inside, Outside}
 use Rattle.flash.specs.Lists.{same}
 use Rattle.flash.specs.Blocks.{part, sized, holds, find, placeOf, blockFrom, blockSize}
 use Rattle.flash.specs.Image.{byteAt, storedId, isBlank}
 use Rattle.flash.proofs.Lists.{and-both, both-and}
-use Rattle.flash.proofs.Places.{rising, Lies, found, lies}
+use Rattle.flash.proofs.Places.{rising, Lies, found, lies, not-outside}
 use Rattle.flash.proofs.Outcomes.{true-sized}
 use Rattle.unit.specs.declared.Unit.{Unit as Port}
 use Rattle.unit.specs.declared.Inputs.{Inputs}
@@ -240,6 +241,14 @@ address-is a i k = (there, λ e. back i (found part a i k e))
     back (suc (suc (suc zero))) l =
         let e : a - 0xE000 + 12288 ≡ k = omega (arith, l .place) in subst (Address a 3) e (in-3 (l .from) (omega (arith, l .under)))
     back (suc (suc (suc (suc i)))) l = absurd (omega (arith, l .number))
+
+-- any other address is outside
+pub outside-is : (a : ℕ) → (find part a ≡ Outside) ↔ ((i k : ℕ) → Address a i k → ⊥)
+outside-is a = (λ e i k d. not-outside (address-is a i k .0 d) e, λ f. go f (find part a) refl)
+  where
+    go : ((i k : ℕ) → Address a i k → ⊥) → (w : Found) → find part a ≡ w → find part a ≡ Outside
+    go f (Inside i k) e = absurd (f i k (address-is a i k .1 e))
+    go f Outside e = e
 
 -- each place of a block has an address
 pub place-address : {i k : ℕ} → InBlock i k → (a : ℕ) × Address a i k

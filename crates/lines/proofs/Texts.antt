@@ -10,7 +10,8 @@ use mathlib.Core.Bool.{Bool, true, false, cond}
 use lib.Dec.{ltb}
 use borrow.Author.Tests.{lt-ltb, le-ltb}
 use Rattle.lines.specs.Ascii.{ascii}
-use Rattle.lines.specs.Text.{digit, decimalOf, decimal, hex, spaced, parted, replyLine}
+use Rattle.lines.specs.Text.{digit, decimalOf, decimal, hex, spaced, parted, replyLine, leaves, wrote}
+use Rattle.lines.proofs.Writes.{wrote-ends}
 
 pub take-more : (l : List ℕ) (i : ℕ) → i < length l → take (i + 1) l ≡ take i l ++ (getD l i 0 ∷ [])
 take-more l i h = rw add-one (take-suc l i 0 h)
@@ -47,6 +48,9 @@ unfolding decimalOf
 length-decimal zero n = omega arith
 length-decimal (suc k) n =
     length-either (ltb n 10) (digit n ∷ []) (decimalOf k (n / 10) ++ (digit (n % 10) ∷ [])) (suc k) (omega arith) (simp length-append (omega (arith, length-decimal k (n / 10))))
+
+pub decimal-ends : (at k n r : ℕ) (out out′ : List ℕ) → leaves r out′ ≡ wrote at (decimalOf k n) out → r ≤ at + k
+decimal-ends at k n r out out′ p = omega (arith, wrote-ends at r (decimalOf k n) out out′ p, length-decimal k n)
 
 pub no-reply : (number : ℕ) (reply : List ℕ) → length reply ≡ 0 → replyLine number reply ≡ []
 unfolding replyLine

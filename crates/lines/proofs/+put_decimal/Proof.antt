@@ -1,11 +1,11 @@
 -- `put_decimal` meets its contract: each call writes the digits before the last one, and then the last one. The measure is the most digits.
-use Prim.Native.Nat.{ℕ, _-_, _/_, _<_}
+use Prim.Native.Nat.{ℕ, _-_, _<_}
 use native.Mathlib.Omega.{arith}
 use mathlib.Core.Path.{_≡_, _∙_}
 use denote.Ref.{now}
 use Rattle.lines.specs.Text.{decimalOf}
-use Rattle.lines.proofs.Writes.{wrote-none, wrote-ends, wrote-then}
-use Rattle.lines.proofs.Texts.{decimal-short, decimal-long, length-decimal}
+use Rattle.lines.proofs.Writes.{wrote-none, wrote-then}
+use Rattle.lines.proofs.Texts.{decimal-short, decimal-long, decimal-ends}
 use borrow.Fn.Kinds.{In}
 use borrow.Fn.PlainCycle.{Measures, is, falls, and}
 use Rattle.lines.proofs.put_decimal.Reads as put-decimal
@@ -72,7 +72,7 @@ put-decimal-put-requires-2 : (t : ℕ) → put-decimal-lts.Need-put-requires-2 (
 put-decimal-put-requires-2 t c κs =
     let a = c .before .before .before .before .before .before .before .before .before .args in
     let k = c .before .before .before .before .put-decimal in
-    omega (arith, wrote-ends (a .at) (k .result) _ (now (a .out)) (k .last .0) (k .ensures), length-decimal (a .most - 1) (a .n / 10), k .kept .0)
+    omega (arith, decimal-ends (a .at) (a .most - 1) _ (k .result) (now (a .out)) (k .last .0) (k .ensures), k .kept .0)
 
 put-decimal-same-length-2 : (t : ℕ) → put-decimal-lts.Need-same-length-2 (callees t) (put-decimal-at t) put-decimal.Post
 put-decimal-same-length-2 t c = c .before .before .put2 .kept .0 ∙ c .before .before .before .before .before .before .before .put-decimal .kept .0

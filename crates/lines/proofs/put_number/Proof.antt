@@ -4,8 +4,8 @@ use mathlib.Core.Path.{_∙_}
 use mathlib.Core.List.{[], _∷_}
 use denote.Ref.{now}
 use Rattle.lines.specs.Text.{decimal}
-use Rattle.lines.proofs.Writes.{wrote-ends, wrote-then}
-use Rattle.lines.proofs.Texts.{length-decimal}
+use Rattle.lines.proofs.Writes.{wrote-then}
+use Rattle.lines.proofs.Texts.{decimal-ends}
 use Rattle.lines.proofs.put_number.Statement.{statement}
 use Rattle.lines.proofs.put_number.Tie as tie
 
@@ -13,11 +13,10 @@ put-decimal-requires : tie.Need-put-decimal-requires
 put-decimal-requires c κs = omega arith
 
 put-requires : tie.Need-put-requires
-unfolding decimal
 put-requires c κs =
     let a = c .before .before .before .before .before .before .args in
     let k = c .before .before .before .put-decimal in
-    omega (arith, wrote-ends (a .at) (k .result) (decimal (a .n)) (now (a .out)) (k .last .0) (k .ensures), length-decimal 20 (a .n), k .kept .0)
+    omega (arith, decimal-ends (a .at) 20 (a .n) (k .result) (now (a .out)) (k .last .0) (k .ensures), k .kept .0)
 
 same-length : tie.Need-same-length
 same-length c = c .before .before .put .kept .0 ∙ c .before .before .before .before .before .before .put-decimal .kept .0
