@@ -18,7 +18,7 @@ use Rattle.unit.specs.declared.Inputs.{Inputs}
 use Rattle.unit.specs.declared.Registers.{Registers}
 use Rattle.unit.specs.declared.Phase.the-variants.{Asleep, Awake}
 use Rattle.unit.specs.declared.Place.the-variants.{Command}
-use Rattle.unit.specs.Model.{noBytes, begun, fresh}
+use Rattle.unit.specs.Model.{noBytes, begun, inputs, fresh}
 use Rattle.unit.proofs.Builders.{sound-fresh}
 use Rattle.protocol.specs.Outcome.{Outcome}
 use Rattle.protocol.specs.Step.{run}
@@ -34,9 +34,10 @@ weaken f c = record { view = c .view; said = c .said; is = f (c .view) (c .is); 
 
 -- the fresh unit of an image that is not blank
 abbrev pub start : View
-start = record { phase = Asleep 0; registers = record { srd = 0x80; srd1 = 0x00; rate = 0 }; collected = noBytes }
+start = record { phase = Asleep 0; registers = begun false (inputs 0) .registers; collected = noBytes }
 
 start-at : At (Asleep 0) start
+unfolding begun
 start-at = record { phase = refl; collected = refl; closed = λ o. omega arith }
 
 -- what a log's pieces leave: asleep with the zeros at its end; at a command, or in the packet that is broken off; open

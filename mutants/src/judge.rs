@@ -1,0 +1,117 @@
+//! What refuses a change.
+
+use crate::change::Change;
+use crate::house;
+use std::path::Path;
+use std::process::Command;
+
+pub enum Verdict {
+    /// A fact that no longer holds, and where.
+    Fact(String),
+    /// Only the proof's text no longer fits, or another error.
+    Unfit(String),
+    Survived,
+    /// It could not be tried.
+    Untried(String),
+}
+
+impl Verdict {
+    pub fn line(&self) -> String {
+        match self {
+            Verdict::Fact(at) => format!("refused by a fact, {at}"),
+            Verdict::Unfit(at) => format!("unfit, {at}"),
+            Verdict::Survived => "SURVIVED".into(),
+            Verdict::Untried(why) => format!("NOT TRIED: {why}"),
+        }
+    }
+}
+
+/// The place of an error, without the folder of the copy: crates/..:LINE.
+fn place(line: &str) -> String {
+    let line = line.split(" error: ").next().unwrap_or(line);
+    let line = line.split(": no proof").next().unwrap_or(line);
+    let start = line.find("crates/").unwrap_or(0);
+    let mut parts = line[start..].trim_end_matches(':').split(':');
+    let file = parts.next().unwrap_or_default();
+    match parts.next() {
+        Some(number) if !number.is_empty() && number.bytes().all(|b| b.is_ascii_digit()) => {
+            format!("{file}:{number}")
+        }
+        _ => line[start..].to_string(),
+    }
+}
+
+fn tried(root: &Path, from: &Path, room: &Path, change: &Change) -> Result<Verdict, String> {
+    house::whole(from, room)?;
+    let crates = room.join("crates");
+    let text = change.applied(&crates)?;
+    let path = change.path(&crates);
+    std::fs::write(&path, text).map_err(|e| format!("{}: {e}", path.display()))?;
+    if house::check(
+        room,
+        if change.laws_only {
+            "demands"
+        } else {
+            &change.name
+        },
+    )? {
+        return Ok(Verdict::Survived);
+    }
+    let said = Command::new("sh")
+        .arg(root.join("tools/verdict"))
+        .arg(room.join("check.log"))
+        .output()
+        .map_err(|e| format!("tools/verdict: {e}"))?;
+    let said = String::from_utf8_lossy(&said.stdout).trim().to_string();
+    let (word, line) = said.split_once(' ').unwrap_or((&said, ""));
+    Ok(match word {
+        "fact" => Verdict::Fact(place(line)),
+        "none" => Verdict::Untried("rt failed without an error of a proof".into()),
+        _ => Verdict::Unfit(format!(
+            "{}: {}",
+            place(line),
+            line.chars().take(300).collect::<String>()
+        )),
+    })
+}
+
+/// Makes the change in a copy of `from` and has it proved.
+pub fn judge(root: &Path, from: &Path, room: &Path, change: &Change) -> Verdict {
+    tried(root, from, room, change).unwrap_or_else(Verdict::Untried)
+}
+
+/// Prints the table; true where nothing survived, all were tried, and at most one in ten is unfit.
+pub fn table(changes: &[Change], results: &[(usize, Verdict)]) -> bool {
+    println!("| Part | Changes | Refused by a fact | Unfit | Survived |");
+    println!("|---|---|---|---|---|");
+    let mut good = true;
+    for (laws_only, part) in [(false, "code"), (true, "definitions")] {
+        let of: Vec<&Verdict> = results
+            .iter()
+            .filter(|(at, _)| changes[*at].laws_only == laws_only)
+            .map(|(_, v)| v)
+            .collect();
+        let count = |f: fn(&Verdict) -> bool| of.iter().filter(|v| f(v)).count();
+        let fact = count(|v| matches!(v, Verdict::Fact(_)));
+        let unfit = count(|v| matches!(v, Verdict::Unfit(_)));
+        let survived = count(|v| matches!(v, Verdict::Survived));
+        println!("| {part} | {} | {fact} | {unfit} | {survived} |", of.len());
+        good = good && fact + unfit == of.len() && unfit * 10 <= of.len();
+    }
+    println!();
+    println!("| No. | Place | Was | Becomes | Outcome |");
+    println!("|---|---|---|---|---|");
+    let cell = |s: &str| s.replace('|', "\\|");
+    for (at, verdict) in results {
+        let c = &changes[*at];
+        println!(
+            "| {} | {} | `{}` | `{}` | {} |",
+            at + 1,
+            c.place(),
+            cell(&c.old),
+            cell(&c.new),
+            cell(&verdict.line())
+        );
+    }
+    good
+}

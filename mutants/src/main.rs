@@ -1,0 +1,76 @@
+//! Wrong ports in numbers: each change of a list is made alone in a copy of the repository, and the proofs judge it.
+//!
+//!     mutants ROOT SCRATCH [WORD..]
+//!
+//! ROOT is the repository, proved; SCRATCH an empty folder; only changes whose place has one of the words are tried, or all. The table goes to
+//! standard output, progress to standard error. Status 0 where nothing survived and at most one in ten is unfit.
+
+mod change;
+mod house;
+mod judge;
+
+use std::path::Path;
+use std::sync::atomic::{AtomicUsize, Ordering};
+use std::sync::Mutex;
+
+/// How many changes are tried at a time.
+const WORKERS: usize = 2;
+
+fn run(root: &Path, scratch: &Path, words: &[String]) -> Result<bool, String> {
+    let mut changes = Vec::new();
+    for (list, laws_only) in [("code.txt", false), ("definitions.txt", true)] {
+        changes.extend(change::read(&root.join("mutants").join(list), laws_only)?);
+    }
+    changes.retain(|c| words.is_empty() || words.iter().any(|w| c.place().contains(w.as_str())));
+    for c in &changes {
+        c.applied(&root.join("crates"))?;
+    }
+    eprintln!("{} changes", changes.len());
+    let laws = scratch.join("laws");
+    if changes.iter().any(|c| c.laws_only) {
+        eprintln!("the house without its functions is proved first");
+        house::laws_only(root, &laws)?;
+    }
+    let next = AtomicUsize::new(0);
+    let results = Mutex::new(Vec::new());
+    std::thread::scope(|scope| {
+        for worker in 0..WORKERS {
+            let (next, results, changes, laws) = (&next, &results, &changes, &laws);
+            scope.spawn(move || loop {
+                let at = next.fetch_add(1, Ordering::SeqCst);
+                let Some(c) = changes.get(at) else { break };
+                let from: &Path = if c.laws_only { laws } else { root };
+                let verdict = judge::judge(root, from, &scratch.join(format!("room{worker}")), c);
+                eprintln!(
+                    "{}/{} {}: {}",
+                    at + 1,
+                    changes.len(),
+                    c.place(),
+                    verdict.line()
+                );
+                results
+                    .lock()
+                    .expect("no worker panics")
+                    .push((at, verdict));
+            });
+        }
+    });
+    let mut results = results.into_inner().map_err(|e| e.to_string())?;
+    results.sort_by_key(|r| r.0);
+    Ok(judge::table(&changes, &results))
+}
+
+fn main() {
+    let arguments: Vec<String> = std::env::args().skip(1).collect();
+    let [root, scratch, words @ ..] = arguments.as_slice() else {
+        eprintln!("usage: mutants ROOT SCRATCH [WORD..]");
+        std::process::exit(2);
+    };
+    match run(Path::new(root), Path::new(scratch), words) {
+        Ok(good) => std::process::exit(if good { 0 } else { 1 }),
+        Err(why) => {
+            eprintln!("mutants: {why}");
+            std::process::exit(1);
+        }
+    }
+}
