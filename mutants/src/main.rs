@@ -1,14 +1,16 @@
 //! Wrong ports in numbers: each change of a list is made alone in a copy of the repository, and the proofs judge it.
 //!
-//!     mutants ROOT SCRATCH [WORD..]
+//!     mutants ROOT                      only says whether each change can be made
+//!     mutants ROOT SCRATCH [WORD..]     tries each, or those whose place has one of the words
 //!
-//! ROOT is the repository, proved; SCRATCH an empty folder; only changes whose place has one of the words are tried, or all. The table goes to
-//! standard output, progress to standard error. Status 0 where nothing survived and at most one in ten is unfit.
+//! ROOT is the repository, proved; SCRATCH an empty folder. The table goes to standard output, progress to standard error. Status 0 where
+//! nothing survived and at most one in ten is unfit.
 
 mod change;
 mod house;
 mod judge;
 
+use change::Change;
 use std::path::Path;
 use std::sync::atomic::{AtomicUsize, Ordering};
 use std::sync::Mutex;
@@ -16,15 +18,21 @@ use std::sync::Mutex;
 /// How many changes are tried at a time.
 const WORKERS: usize = 2;
 
-fn run(root: &Path, scratch: &Path, words: &[String]) -> Result<bool, String> {
+/// The changes of both lists; each can be made.
+fn read(root: &Path) -> Result<Vec<Change>, String> {
     let mut changes = Vec::new();
     for (list, laws_only) in [("code.txt", false), ("definitions.txt", true)] {
         changes.extend(change::read(&root.join("mutants").join(list), laws_only)?);
     }
-    changes.retain(|c| words.is_empty() || words.iter().any(|w| c.place().contains(w.as_str())));
     for c in &changes {
         c.applied(&root.join("crates"))?;
     }
+    Ok(changes)
+}
+
+fn run(root: &Path, scratch: &Path, words: &[String]) -> Result<bool, String> {
+    let mut changes = read(root)?;
+    changes.retain(|c| words.is_empty() || words.iter().any(|w| c.place().contains(w.as_str())));
     eprintln!("{} changes", changes.len());
     let laws = scratch.join("laws");
     if changes.iter().any(|c| c.laws_only) {
@@ -62,11 +70,18 @@ fn run(root: &Path, scratch: &Path, words: &[String]) -> Result<bool, String> {
 
 fn main() {
     let arguments: Vec<String> = std::env::args().skip(1).collect();
-    let [root, scratch, words @ ..] = arguments.as_slice() else {
-        eprintln!("usage: mutants ROOT SCRATCH [WORD..]");
-        std::process::exit(2);
+    let outcome = match arguments.as_slice() {
+        [root] => read(Path::new(root)).map(|changes| {
+            println!("{} changes can be made", changes.len());
+            true
+        }),
+        [root, scratch, words @ ..] => run(Path::new(root), Path::new(scratch), words),
+        [] => {
+            eprintln!("usage: mutants ROOT [SCRATCH [WORD..]]");
+            std::process::exit(2);
+        }
     };
-    match run(Path::new(root), Path::new(scratch), words) {
+    match outcome {
         Ok(good) => std::process::exit(if good { 0 } else { 1 }),
         Err(why) => {
             eprintln!("mutants: {why}");
