@@ -12,6 +12,9 @@ mod client;
 mod expect;
 mod kills;
 mod program;
+// the same numbers from a seed as in compare, of which not every function is needed here
+#[allow(dead_code)]
+#[path = "../../compare/src/random.rs"]
 mod random;
 mod refusals;
 mod streams;
