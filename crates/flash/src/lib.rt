@@ -49,7 +49,7 @@ pub fn block_of(address: u32) -> Found
     Found::Outside
 }
 
-fn page_address(mid: u8, high: u8) -> u32
+pub fn page_address(mid: u8, high: u8) -> u32
     ensures { λ r. ⌜ r ≡ pageAddress mid high ⌝ }
 {
     (mid as u32) * 256 + (high as u32) * 65536

@@ -1,26 +1,23 @@
 -- What the port's inner functions leave, over the parts of a unit: its state by value, its settings, and its collected bytes lent. The rules stay those of the whole unit.
 use Prim.Native.Nat.{ℕ, _≤_}
 use mathlib.Core.Path.{_≡_}
-use mathlib.Core.Bool.{Bool, true, false, cond, not, _&&_}
+use mathlib.Core.Bool.{true}
 use mathlib.Core.List.{List}
 use lib.ListN.{length}
-use lib.Dec.{eqb}
-use Rattle.flash.specs.Blocks.{part, sized}
 use Rattle.flash.specs.Lists.{Bytes}
 use Rattle.unit.specs.declared.Unit.{Unit as Port}
 use Rattle.unit.specs.declared.State.{State}
-use Rattle.unit.specs.declared.Registers.{Registers}
 use Rattle.unit.specs.declared.Settings.{Settings}
-use Rattle.unit.specs.Model.{whole, withSrd, standing}
+use Rattle.unit.specs.Model.{whole}
 use Rattle.unit.specs.Range.{inRange}
 use Rattle.protocol.specs.Outcome.{Outcome, quiet}
 use Rattle.protocol.specs.Calls.{Left, left, Walk, answered}
-use Rattle.port.specs.declared.Said.{Said}
+use Rattle.port.specs.declared.Took.{Took}
 use Rattle.port.specs.declared.Went.{Went}
 
 -- what a byte leaves that is answered with so many bytes
-abbrev pub said : Said → Settings → List ℕ → List ℕ → List ℕ → Left
-said s t got img area =
+abbrev pub took : Took → Settings → List ℕ → List ℕ → List ℕ → Left
+took s t got img area =
     left (record { refusal = 0; unit = whole (s .state) t got; taken = 1; «reply_len» = s .len }) img area
 
 -- what a byte leaves that is answered with none
@@ -40,18 +37,10 @@ pub record Fine (u : Port) (img area : List ℕ) : Type 0 where
   pub image : length img ≡ 20480
   pub room : 256 ≤ length area
 
--- an erase is carried out where its confirm byte is D0 and no error stands
-unfoldable pub carries : Registers → ℕ → Bool
-carries r confirm = eqb confirm 0xD0 && not (standing r)
-
--- the registers where it is not: FF and a standing error change none, any other confirm byte sets SR4 and SR5
-unfoldable pub unconfirmed : Registers → ℕ → Registers
-unconfirmed r confirm = cond (eqb confirm 0xFF) r (cond (standing r) r (withSrd r 0xB0))
-
 -- a run's walk, answered in an area
 abbrev pub landed : Walk → List ℕ → Left
 landed w area = answered (w .outcome) (w .taken) area
 
 -- an inner answer with no reply
-abbrev pub quietly : State → Said
+abbrev pub quietly : State → Took
 quietly s = record { state = s; len = 0 }

@@ -4,13 +4,6 @@ ghost use mathlib.Core.List.{List};
 ghost use Prim.Native.Nat.{ℕ, suc, _+_, _<_};
 ghost use lib.ListN.{getD, set, take};
 ghost use lib.Dec.{ltb};
-ghost use Rattle.unit.specs.Model.{noBytes};
-
-pub(crate) fn clear(collected: &mut [u8; 259])
-    ensures { λ _. ⌜ now (collected .exit) ≡ noBytes ⌝ }
-{
-    *collected = [0u8; 259];
-}
 
 pub(crate) fn store(collected: &mut [u8; 259], at: usize, b: u8)
     requires { ⌜ at < 259 ⌝ }

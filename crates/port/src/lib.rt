@@ -1,4 +1,5 @@
 // The port: a start, a byte of the line, a run of bytes. By value at the edge; inside, the collected bytes are lent, so that no byte copies them.
+use commands::Said;
 use protocol::Answer;
 use protocol::Started;
 use unit::Inputs;
@@ -9,22 +10,20 @@ use unit::State;
 use unit::Unit;
 
 mod collect;
-mod commands;
-mod endings;
 mod packets;
 
 ghost use mathlib.Core.Path.{_≡_};
 ghost use mathlib.Core.Bool.{true};
-ghost use mathlib.Core.List.{List};
-ghost use Prim.Native.Nat.{ℕ};
-ghost use lib.ListN.{length};
+ghost use mathlib.Core.List.{List, _++_};
+ghost use Prim.Native.Nat.{ℕ, _≤_};
+ghost use lib.ListN.{length, take, drop};
 ghost use Rattle.unit.specs.Model.{whole};
 ghost use Rattle.protocol.specs.Step.{inPacket, step};
 ghost use Rattle.protocol.specs.Calls.{StartEnsures, ByteEnsures, RunEnsures, refusal, refusing, answered, walked};
-ghost use Rattle.port.specs.Parts.{said, went, landed, Fine};
+ghost use Rattle.port.specs.Parts.{took, went, landed, Fine};
 
 // What a byte leads to inside: the state, and the reply's length.
-pub(crate) struct Said {
+pub(crate) struct Took {
     pub(crate) state: State,
     pub(crate) len: usize,
 }
@@ -82,6 +81,20 @@ fn refuse(refusal: u8, u: Unit) -> Answer
     }
 }
 
+// A reply that was handed back by value, at the front of the reply area.
+fn answer(reply: &mut [u8], said: Said) -> Took
+    requires { ⌜ (said .len ≤ 8) × (256 ≤ length (now reply)) ⌝ }
+    ensures { λ r. ⌜ (r ≡ record { state = said .state; len = said .len }) × (now (reply .exit) ≡ take (said .len) (said .reply) ++ drop (said .len) (now (reply .entry))) ⌝ }
+{
+    let bytes = said.reply;
+    let state = said.state;
+    acts::copy(reply, &bytes[..said.len]);
+    Took {
+        state: state,
+        len: said.len,
+    }
+}
+
 // A byte that is not refused.
 fn step_in(
     s: State,
@@ -90,34 +103,34 @@ fn step_in(
     image: &mut [u8],
     reply: &mut [u8],
     b: u8,
-) -> Said
+) -> Took
     requires { ⌜ Fine (whole s settings (now collected)) (now image) (now reply) ⌝ }
-    ensures { λ r. ⌜ said r settings (now (collected .exit)) (now (image .exit)) (now (reply .exit))
+    ensures { λ r. ⌜ took r settings (now (collected .exit)) (now (image .exit)) (now (reply .exit))
         ≡ answered (step (whole s settings (now (collected .entry))) (now (image .entry)) b) 1 (now (reply .entry)) ⌝ }
 {
     let phase = s.phase;
     match phase {
-        Phase::Asleep(n) => commands::asleep(s, n, reply, b),
+        Phase::Asleep(n) => answer(reply, commands::asleep(s, n, b)),
         Phase::Awake(place) => match place {
-            Place::Command => commands::commanded(s, collected, reply, b),
+            Place::Command => answer(reply, commands::commanded(s, collected, b)),
             Place::PageRead(n) => packets::page_read(s, n, collected, image, reply, b),
-            Place::PageProgram(n) => Said {
+            Place::PageProgram(n) => Took {
                 state: packets::page_program(s, settings, n, collected, image, b),
                 len: 0,
             },
-            Place::UnitProgram(n) => Said {
+            Place::UnitProgram(n) => Took {
                 state: packets::unit_program(s, settings, n, collected, image, b),
                 len: 0,
             },
-            Place::BlockErase(n) => Said {
+            Place::BlockErase(n) => Took {
                 state: packets::block_erase(s, settings, n, collected, image, b),
                 len: 0,
             },
-            Place::EraseAll(n) => Said {
+            Place::EraseAll(n) => Took {
                 state: packets::erase_all(s, settings, n, collected, image, b),
                 len: 0,
             },
-            Place::IdCheck(n) => Said {
+            Place::IdCheck(n) => Took {
                 state: packets::id_check(s, settings, n, collected, image, b),
                 len: 0,
             },

@@ -1,23 +1,29 @@
 // A byte inside a packet, n bytes after its command: collected, or the packet's last, at which alone it acts.
-use super::Said;
+use super::Took;
 use super::collect;
-use super::endings;
 use unit::Phase;
 use unit::Place;
+use unit::Registers;
 use unit::Settings;
 use unit::State;
-use unit::Unit;
 ghost use mathlib.Core.Path.{_≡_};
 ghost use mathlib.Core.List.{List};
 ghost use Prim.Native.Nat.{ℕ, _+_, _≤_, _<_};
 ghost use lib.ListN.{length, getD, take};
+ghost use Rattle.flash.specs.Blocks.{byteAddress};
 ghost use Rattle.unit.specs.Phases.{need};
 ghost use Rattle.unit.specs.Phases.Kind.{page-read, page-program, unit-program, block-erase, erase-all, id-check};
-ghost use Rattle.unit.specs.Model.{whole};
-ghost use Rattle.protocol.specs.Endings.{finished};
+ghost use Rattle.unit.specs.Model.{whole, withSrd1};
+ghost use Rattle.protocol.specs.Endings.{judged, finished};
 ghost use Rattle.protocol.specs.Step.{inPacket};
 ghost use Rattle.protocol.specs.Calls.{answered};
-ghost use Rattle.port.specs.Parts.{said, silent};
+ghost use Rattle.acts.specs.Clauses.{ended};
+ghost use Rattle.port.specs.Parts.{took, silent};
+
+// How far the low 16 address bits and the size of a program may reach: the end of a bank of 64 KiB.
+const PAGE_PROGRAM_MOST: usize = 65536;
+
+const UNIT_PROGRAM_MOST: usize = 65536;
 
 pub(crate) fn page_read(
     s: State,
@@ -26,46 +32,41 @@ pub(crate) fn page_read(
     image: &[u8],
     reply: &mut [u8],
     b: u8,
-) -> Said
+) -> Took
     requires { ⌜ (n < 2) × (length (now collected) ≡ 259) × (256 ≤ length (now reply)) ⌝ }
-    ensures { λ r. ⌜ ((t : Settings) → said r t (now (collected .exit)) (now (image .entry)) (now (reply .exit))
+    ensures { λ r. ⌜ ((t : Settings) → took r t (now (collected .exit)) (now (image .entry)) (now (reply .exit))
         ≡ answered (inPacket page-read n (whole s t (now (collected .entry))) (now (image .entry)) b) 1 (now (reply .entry))) ⌝ }
 {
     collect::store(collected, n, b);
     if n == 0 {
-        return Said {
+        return Took {
             state: s.at(Phase::Awake(Place::PageRead(1))),
             len: 0,
         };
     }
-    endings::show_page(image, reply, collected[0], collected[1]);
-    collect::clear(collected);
+    acts::show_page(image, reply, collected[0], collected[1]);
+    commands::clear(collected);
     let registers = s.registers;
-    Said {
+    Took {
         state: State::at_command(registers),
         len: flash::PAGE,
     }
 }
 
-// A page program whose bytes have all come.
-fn page_program_end(
-    s: State,
-    settings: Settings,
-    collected: &mut [u8; 259],
-    image: &mut [u8],
-) -> State
-    requires { ⌜ length (now collected) ≡ 259 ⌝ }
-    ensures { λ r. ⌜ ((got : List ℕ) → silent r settings (now (collected .exit)) (now (image .exit))
-        ≡ finished page-program (whole s settings got) (now (image .entry)) (take 258 (now (collected .entry)))) ⌝ }
+// A page program whose bytes `xs` have all come.
+fn program_page(s: State, settings: Settings, image: &mut [u8], xs: &[u8]) -> Registers
+    requires { ⌜ length (now xs) ≡ 259 ⌝ }
+    ensures { λ r. ⌜ ((got : List ℕ) → ended settings r (now (image .exit))
+        ≡ finished page-program (whole s settings got) (now (image .entry)) (take 258 (now (xs .entry)))) ⌝ }
 {
-    let registers = s.registers;
-    if registers.is_standing() {
-        collect::clear(collected);
-        return State::at_command(registers);
-    }
-    let good = endings::program_page(settings, image, collected);
-    collect::clear(collected);
-    endings::reported(registers, good, Unit::READY + Unit::PROGRAM_ERROR)
+    acts::program(
+        s,
+        settings,
+        image,
+        flash::page_address(xs[0], xs[1]),
+        &xs[2..258],
+        PAGE_PROGRAM_MOST,
+    )
 }
 
 pub(crate) fn page_program(
@@ -84,28 +85,32 @@ pub(crate) fn page_program(
     if n < 257 {
         return s.at(Phase::Awake(Place::PageProgram(n + 1)));
     }
-    page_program_end(s, settings, collected, image)
+    let registers = program_page(s, settings, image, collected);
+    commands::clear(collected);
+    State::at_command(registers)
 }
 
-// A unit program whose bytes have all come.
-fn unit_program_end(
-    s: State,
-    settings: Settings,
-    collected: &mut [u8; 259],
-    image: &mut [u8],
-) -> State
-    requires { ⌜ length (now collected) ≡ 259 ⌝ }
-    ensures { λ r. ⌜ ((got : List ℕ) → silent r settings (now (collected .exit)) (now (image .exit))
-        ≡ finished unit-program (whole s settings got) (now (image .entry)) (take (4 + getD (now (collected .entry)) 3 0) (now (collected .entry)))) ⌝ }
+fn byte_address(low: u8, mid: u8, high: u8) -> u32
+    ensures { λ r. ⌜ r ≡ byteAddress low mid high ⌝ }
 {
-    let registers = s.registers;
-    if registers.is_standing() {
-        collect::clear(collected);
-        return State::at_command(registers);
-    }
-    let good = endings::program_unit(settings, image, collected);
-    collect::clear(collected);
-    endings::reported(registers, good, Unit::READY + Unit::PROGRAM_ERROR)
+    (low as u32) + (mid as u32) * 256 + (high as u32) * 65536
+}
+
+// A unit program whose bytes `xs` have all come: its fourth is its size.
+fn program_unit(s: State, settings: Settings, image: &mut [u8], xs: &[u8]) -> Registers
+    requires { ⌜ length (now xs) ≡ 259 ⌝ }
+    ensures { λ r. ⌜ ((got : List ℕ) → ended settings r (now (image .exit))
+        ≡ finished unit-program (whole s settings got) (now (image .entry)) (take (4 + getD (now (xs .entry)) 3 0) (now (xs .entry)))) ⌝ }
+{
+    let n = xs[3] as usize;
+    acts::program(
+        s,
+        settings,
+        image,
+        byte_address(xs[0], xs[1], xs[2]),
+        &xs[4..4 + n],
+        UNIT_PROGRAM_MOST,
+    )
 }
 
 pub(crate) fn unit_program(
@@ -124,29 +129,9 @@ pub(crate) fn unit_program(
     if collect::goes_on(n, collected[3]) {
         return s.at(Phase::Awake(Place::UnitProgram(n + 1)));
     }
-    unit_program_end(s, settings, collected, image)
-}
-
-// A block erase whose bytes have all come.
-fn block_erase_end(
-    s: State,
-    settings: Settings,
-    collected: &mut [u8; 259],
-    image: &mut [u8],
-) -> State
-    requires { ⌜ length (now collected) ≡ 259 ⌝ }
-    ensures { λ r. ⌜ ((got : List ℕ) → silent r settings (now (collected .exit)) (now (image .exit))
-        ≡ finished block-erase (whole s settings got) (now (image .entry)) (take 3 (now (collected .entry)))) ⌝ }
-{
-    let registers = s.registers;
-    let confirm = collected[2];
-    let address = endings::page_address(collected[0], collected[1]);
-    collect::clear(collected);
-    if endings::is_carried(registers, confirm) {
-        let good = flash::erase(image, settings.protection, address);
-        return endings::reported(registers, good, Unit::READY + Unit::ERASE_ERROR);
-    }
-    State::at_command(endings::not_carried(registers, confirm))
+    let registers = program_unit(s, settings, image, collected);
+    commands::clear(collected);
+    State::at_command(registers)
 }
 
 pub(crate) fn block_erase(
@@ -165,7 +150,10 @@ pub(crate) fn block_erase(
     if n < 2 {
         return s.at(Phase::Awake(Place::BlockErase(n + 1)));
     }
-    block_erase_end(s, settings, collected, image)
+    let address = flash::page_address(collected[0], collected[1]);
+    let registers = acts::erase(s, settings, image, address, collected[2]);
+    commands::clear(collected);
+    State::at_command(registers)
 }
 
 // The one byte of an erase of all blocks: its confirm byte.
@@ -181,31 +169,18 @@ pub(crate) fn erase_all(
     ensures { λ r. ⌜ silent r settings (now (collected .exit)) (now (image .exit))
         ≡ inPacket erase-all n (whole s settings (now (collected .entry))) (now (image .entry)) b ⌝ }
 {
-    let registers = s.registers;
-    collect::clear(collected);
-    if endings::is_carried(registers, b) {
-        flash::erase_all(image, settings.protection);
-        return endings::reported(registers, true, Unit::READY + Unit::ERASE_ERROR);
-    }
-    State::at_command(endings::not_carried(registers, b))
+    let registers = acts::erase_all(s, settings, image, b);
+    commands::clear(collected);
+    State::at_command(registers)
 }
 
-// An ID check whose bytes have all come.
-fn id_check_end(s: State, settings: Settings, collected: &mut [u8; 259], image: &[u8]) -> State
-    requires { ⌜ length (now collected) ≡ 259 ⌝ }
-    ensures { λ r. ⌜ ((got : List ℕ) → silent r settings (now (collected .exit)) (now (image .entry))
-        ≡ finished id-check (whole s settings got) (now (image .entry)) (take (4 + getD (now (collected .entry)) 3 0) (now (collected .entry)))) ⌝ }
+// An ID check whose bytes `xs` have all come: their fourth is the size.
+fn check_packet(registers: Registers, settings: Settings, image: &[u8], xs: &[u8]) -> Registers
+    requires { ⌜ length (now xs) ≡ 259 ⌝ }
+    ensures { λ r. ⌜ r ≡ withSrd1 registers (judged (settings .blank) (now (image .entry)) (take (4 + getD (now (xs .entry)) 3 0) (now (xs .entry)))) ⌝ }
 {
-    let registers = s.registers;
-    let right = endings::is_right_packet(image, collected);
-    collect::clear(collected);
-    if settings.blank {
-        return State::at_command(registers.with_srd1(Unit::MATCH));
-    }
-    if right {
-        return State::at_command(registers.with_srd1(Unit::MATCH));
-    }
-    State::at_command(registers.with_srd1(Unit::MISMATCH))
+    let n = 4 + xs[3] as usize;
+    acts::check_id(registers, settings, image, &xs[..n])
 }
 
 pub(crate) fn id_check(
@@ -224,5 +199,7 @@ pub(crate) fn id_check(
     if collect::goes_on(n, collected[3]) {
         return s.at(Phase::Awake(Place::IdCheck(n + 1)));
     }
-    id_check_end(s, settings, collected, image)
+    let registers = check_packet(s.registers, settings, image, collected);
+    commands::clear(collected);
+    State::at_command(registers)
 }

@@ -39,10 +39,13 @@ bankEnd block-erase = 0
 bankEnd erase-all = 0
 bankEnd id-check = 0
 
+-- what bytes write from an address on: nothing where the low 16 address bits plus their number are more than `most`
+abbrev pub reaching : ℕ → ℕ → List ℕ → ℕ → List ℕ → Written
+reaching most p img a ds = cond (leb (a % 65536 + length ds) most) (program part p img a ds) (written img false)
+
 -- what a program packet writes from an address on: nothing where it reaches past the end of its bank
 unfoldable pub programmedBy : Kind → ℕ → List ℕ → ℕ → List ℕ → Written
-programmedBy k p img a ds =
-    cond (leb (a % 65536 + length ds) (bankEnd k)) (program part p img a ds) (written img false)
+programmedBy k p img a ds = reaching (bankEnd k) p img a ds
 
 -- program, at the end: nothing if SR4 or SR5 stands, else SR4 is set where it could not be done or some byte then differs from its data
 unfoldable pub programs : Port → List ℕ → Written → Outcome

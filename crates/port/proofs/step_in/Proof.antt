@@ -1,17 +1,12 @@
 -- `port::step_in` meets its contract: each arm is the case of the step at its place, and what it asks holds of a unit in range.
-use mathlib.Core.Path.{_≡_, refl, ap, sym, _∙_}
+use mathlib.Core.Path.{ap, _∙_}
 use native.Mathlib.Omega.{arith}
 use denote.Ref.{now}
 use Rattle.unit.specs.declared.Phase.the-variants.{Awake}
 use Rattle.unit.specs.Phases.{positionOf, need}
-use Rattle.unit.specs.Model.{whole}
-use Rattle.unit.proofs.Ranged.{few-zeros}
 use Rattle.unit.proofs.Inside.{few, few-collected}
-use Rattle.protocol.specs.Outcome.{Outcome}
-use Rattle.protocol.specs.Step.{step, stepAt}
-use Rattle.protocol.specs.Calls.{answered}
-use Rattle.protocol.proofs.Steps.{step-at}
-use Rattle.port.proofs.Answers.{said-nothing}
+use Rattle.protocol.specs.Step.{stepAt}
+use Rattle.port.proofs.Answers.{few-said, took-said, stepped, stepped-silently}
 use Rattle.port.proofs.Given.{fine-sound}
 use borrow.Author.Needs.{needs}
 use Rattle.port.proofs.step_in.Statement.{statement}
@@ -21,7 +16,12 @@ enum-known-phase : tie.Need-enum-known-phase
 enum-known-phase c = search needs
 
 asleep-requires : tie.Need-asleep-requires
-asleep-requires c κs = (few-zeros (fine-sound (c .before .before .before .before .before .before .pre)) (ap positionOf (c .before .before .phase .given .1)), c .before .before .before .before .before .before .pre .room)
+asleep-requires c κs = search needs
+
+answer-requires : tie.Need-answer-requires
+answer-requires c κs =
+    let a = c .before .before .before .before .before .before .before .args in
+    (few-said (c .asleep .result) (a .settings) (now (a .collected)) (now (a .image)) _ (c .asleep .ensures (a .settings) (now (a .collected)) (now (a .image))) (search needs), c .before .before .before .before .before .before .before .pre .room)
 
 enum-known-phase-2 : tie.Need-enum-known-phase-2
 enum-known-phase-2 c = search needs
@@ -30,7 +30,12 @@ enum-told : tie.Need-enum-told
 enum-told c = search needs
 
 commanded-requires : tie.Need-commanded-requires
-commanded-requires c κs = c .before .before .before .before .before .before .before .before .before .pre .room
+commanded-requires c κs = search needs
+
+answer-requires-2 : tie.Need-answer-requires-2
+answer-requires-2 c κs =
+    let a = c .before .before .before .before .before .before .before .before .before .before .args in
+    (few-said (c .commanded .result) (a .settings) _ (now (a .image)) _ (c .commanded .ensures (a .settings) (now (a .image))) (search needs), c .before .before .before .before .before .before .before .before .before .before .pre .room)
 
 enum-known-place : tie.Need-enum-known-place
 enum-known-place c = search needs
@@ -78,10 +83,11 @@ same-length c = search needs
 returns : tie.Need-returns
 unfolding stepAt
 returns c =
-    let a = c .before .before .before .before .before .before .before .before .before .args in
-    let u = whole (a .s) (a .settings) (now (a .collected)) in
-    c .before .before .asleep .ensures (a .settings) (now (a .collected)) (now (a .image))
-    ∙ ap (λ (o : Outcome). answered o 1 (now (a .reply))) (sym (step-at u (now (a .image)) (a .b) (ap positionOf (c .before .before .before .before .before .phase .given .1))))
+    let a = c .before .before .before .before .before .before .before .before .before .before .args in
+    let k = c .before .before .answer .ensures in
+    let said = c .before .before .before .asleep in
+    stepped (a .s) (a .settings) (now (a .collected)) (now (a .image)) (now (a .reply)) (a .b) (ap positionOf (c .before .before .before .before .before .before .phase .given .1)) _
+    (took-said (said .result) (a .settings) (now (a .collected)) (now (a .image)) _ (said .ensures (a .settings) (now (a .collected)) (now (a .image))) _ (now (a .reply)) _ (k .0) (k .1))
 
 same-length-2 : tie.Need-same-length-2
 same-length-2 c = search needs
@@ -89,10 +95,11 @@ same-length-2 c = search needs
 returns-2 : tie.Need-returns-2
 unfolding stepAt
 returns-2 c =
-    let a = c .before .before .before .before .before .before .before .before .before .before .before .before .args in
-    let u = whole (a .s) (a .settings) (now (a .collected)) in
-    c .before .before .commanded .ensures (a .settings) (now (a .image))
-    ∙ ap (λ (o : Outcome). answered o 1 (now (a .reply))) (sym (step-at u (now (a .image)) (a .b) (ap positionOf (c .before .before .before .before .before .before .before .before .phase2 .given .1 ∙ ap Awake (c .before .before .before .before .before .enum-told .given .1)))))
+    let a = c .before .before .before .before .before .before .before .before .before .before .before .before .before .args in
+    let k = c .before .before .answer2 .ensures in
+    let said = c .before .before .before .commanded in
+    stepped (a .s) (a .settings) (now (a .collected)) (now (a .image)) (now (a .reply)) (a .b) (ap positionOf (c .before .before .before .before .before .before .before .before .before .phase2 .given .1 ∙ ap Awake (c .before .before .before .before .before .before .enum-told .given .1))) _
+    (took-said (said .result) (a .settings) _ (now (a .image)) _ (said .ensures (a .settings) (now (a .image))) _ (now (a .reply)) _ (k .0) (k .1))
 
 same-length-3 : tie.Need-same-length-3
 same-length-3 c = search needs
@@ -104,9 +111,7 @@ returns-3 : tie.Need-returns-3
 unfolding stepAt
 returns-3 c =
     let a = c .before .before .before .before .before .before .before .before .before .before .before .before .before .before .args in
-    let u = whole (a .s) (a .settings) (now (a .collected)) in
-    c .before .before .page-read .ensures (a .settings)
-    ∙ ap (λ (o : Outcome). answered o 1 (now (a .reply))) (sym (step-at u (now (a .image)) (a .b) (ap positionOf (c .before .before .before .before .before .before .before .before .before .before .phase2 .given .1 ∙ ap Awake (c .before .before .before .before .before .before .before .place .given .1)))))
+    stepped (a .s) (a .settings) (now (a .collected)) (now (a .image)) (now (a .reply)) (a .b) (ap positionOf (c .before .before .before .before .before .before .before .before .before .before .phase2 .given .1 ∙ ap Awake (c .before .before .before .before .before .before .before .place .given .1))) _ (c .before .before .page-read .ensures (a .settings))
 
 same-length-5 : tie.Need-same-length-5
 same-length-5 c = search needs
@@ -115,8 +120,7 @@ returns-4 : tie.Need-returns-4
 unfolding stepAt
 returns-4 c =
     let a = c .before .before .before .before .before .before .before .before .before .before .before .before .before .args in
-    let u = whole (a .s) (a .settings) (now (a .collected)) in
-    said-nothing _ (a .settings) _ _ (now (a .reply)) (step u (now (a .image)) (a .b)) (step-at u (now (a .image)) (a .b) (ap positionOf (c .before .before .before .before .before .before .before .before .before .phase2 .given .1 ∙ ap Awake (c .before .before .before .before .before .before .place2 .given .1))) ∙ sym (c .before .before .page-program .ensures))
+    stepped-silently (a .s) (a .settings) (now (a .collected)) (now (a .image)) (now (a .reply)) (a .b) (ap positionOf (c .before .before .before .before .before .before .before .before .before .phase2 .given .1 ∙ ap Awake (c .before .before .before .before .before .before .place2 .given .1))) _ _ _ (c .before .before .page-program .ensures)
 
 same-length-6 : tie.Need-same-length-6
 same-length-6 c = search needs
@@ -125,8 +129,7 @@ returns-5 : tie.Need-returns-5
 unfolding stepAt
 returns-5 c =
     let a = c .before .before .before .before .before .before .before .before .before .before .before .before .before .args in
-    let u = whole (a .s) (a .settings) (now (a .collected)) in
-    said-nothing _ (a .settings) _ _ (now (a .reply)) (step u (now (a .image)) (a .b)) (step-at u (now (a .image)) (a .b) (ap positionOf (c .before .before .before .before .before .before .before .before .before .phase2 .given .1 ∙ ap Awake (c .before .before .before .before .before .before .place3 .given .1))) ∙ sym (c .before .before .unit-program .ensures))
+    stepped-silently (a .s) (a .settings) (now (a .collected)) (now (a .image)) (now (a .reply)) (a .b) (ap positionOf (c .before .before .before .before .before .before .before .before .before .phase2 .given .1 ∙ ap Awake (c .before .before .before .before .before .before .place3 .given .1))) _ _ _ (c .before .before .unit-program .ensures)
 
 same-length-7 : tie.Need-same-length-7
 same-length-7 c = search needs
@@ -135,8 +138,7 @@ returns-6 : tie.Need-returns-6
 unfolding stepAt
 returns-6 c =
     let a = c .before .before .before .before .before .before .before .before .before .before .before .before .before .args in
-    let u = whole (a .s) (a .settings) (now (a .collected)) in
-    said-nothing _ (a .settings) _ _ (now (a .reply)) (step u (now (a .image)) (a .b)) (step-at u (now (a .image)) (a .b) (ap positionOf (c .before .before .before .before .before .before .before .before .before .phase2 .given .1 ∙ ap Awake (c .before .before .before .before .before .before .place4 .given .1))) ∙ sym (c .before .before .block-erase .ensures))
+    stepped-silently (a .s) (a .settings) (now (a .collected)) (now (a .image)) (now (a .reply)) (a .b) (ap positionOf (c .before .before .before .before .before .before .before .before .before .phase2 .given .1 ∙ ap Awake (c .before .before .before .before .before .before .place4 .given .1))) _ _ _ (c .before .before .block-erase .ensures)
 
 same-length-8 : tie.Need-same-length-8
 same-length-8 c = search needs
@@ -145,8 +147,7 @@ returns-7 : tie.Need-returns-7
 unfolding stepAt
 returns-7 c =
     let a = c .before .before .before .before .before .before .before .before .before .before .before .before .before .args in
-    let u = whole (a .s) (a .settings) (now (a .collected)) in
-    said-nothing _ (a .settings) _ _ (now (a .reply)) (step u (now (a .image)) (a .b)) (step-at u (now (a .image)) (a .b) (ap positionOf (c .before .before .before .before .before .before .before .before .before .phase2 .given .1 ∙ ap Awake (c .before .before .before .before .before .before .place5 .given .1))) ∙ sym (c .before .before .erase-all .ensures))
+    stepped-silently (a .s) (a .settings) (now (a .collected)) (now (a .image)) (now (a .reply)) (a .b) (ap positionOf (c .before .before .before .before .before .before .before .before .before .phase2 .given .1 ∙ ap Awake (c .before .before .before .before .before .before .place5 .given .1))) _ _ _ (c .before .before .erase-all .ensures)
 
 same-length-9 : tie.Need-same-length-9
 same-length-9 c = search needs
@@ -155,8 +156,7 @@ returns-8 : tie.Need-returns-8
 unfolding stepAt
 returns-8 c =
     let a = c .before .before .before .before .before .before .before .before .before .before .before .args in
-    let u = whole (a .s) (a .settings) (now (a .collected)) in
-    said-nothing _ (a .settings) _ _ (now (a .reply)) (step u (now (a .image)) (a .b)) (step-at u (now (a .image)) (a .b) (ap positionOf (c .before .before .before .before .before .before .before .phase2 .given .1 ∙ ap Awake (c .before .before .before .before .place6 .given .1))) ∙ sym (c .id-check .ensures))
+    stepped-silently (a .s) (a .settings) (now (a .collected)) (now (a .image)) (now (a .reply)) (a .b) (ap positionOf (c .before .before .before .before .before .before .before .phase2 .given .1 ∙ ap Awake (c .before .before .before .before .place6 .given .1))) _ _ _ (c .id-check .ensures)
 
 pub step-in-spec : {M : Type 1} → statement M
 step-in-spec =
@@ -164,9 +164,11 @@ step-in-spec =
     (tie.spec
     enum-known-phase
     asleep-requires
+    answer-requires
     enum-known-phase-2
     enum-told
     commanded-requires
+    answer-requires-2
     enum-known-place
     page-read-requires
     enum-known-place-2

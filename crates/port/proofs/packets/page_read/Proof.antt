@@ -1,21 +1,18 @@
--- `port::packets::page_read` meets its contract: its first byte is collected, and at its second the page is at the front of the area.
-use native.Mathlib.Numerals.{add-one}
+-- `port::packets::page_read` meets its contract: the first byte is collected, and the second answers the page.
 use native.Mathlib.Omega.{arith}
 use mathlib.Core.Path.{_≡_, refl, ap, sym, _∙_}
 use denote.Ref.{now}
 use mathlib.Core.List.{List, _++_}
-use Prim.Native.Nat.{ℕ, suc, _+_}
-use lib.ListN.{length, getD, drop, take, set, length-set}
-use Rattle.unit.specs.Phases.{need}
-use Rattle.unit.specs.Model.{whole}
-use Rattle.protocol.specs.Outcome.{Outcome}
-use Rattle.protocol.specs.Endings.{finished, programs, erases}
+use Prim.Native.Nat.{ℕ, suc}
+use lib.ListN.{getD, set}
 use Rattle.flash.specs.Blocks.{part}
 use Rattle.flash.specs.Image.{pagePart}
+use Rattle.unit.specs.Phases.{need}
 use Rattle.unit.specs.Phases.Kind.{page-read}
 use Rattle.protocol.specs.Endings.{pageReply}
-use Rattle.port.proofs.Answers.{said-nothing, said-there}
 use Rattle.protocol.proofs.Cases.{page-reply-long}
+use Rattle.acts.specs.Clauses.{front}
+use Rattle.port.proofs.Answers.{took-nothing, took-there, front-fits}
 use Rattle.port.proofs.PacketLaws.{collects, finishes, page-shown}
 use borrow.Author.Needs.{needs}
 use Rattle.port.proofs.packets.page_read.Statement.{statement}
@@ -33,7 +30,7 @@ returns c t =
     let a = c .before .before .before .before .before .before .args in
     let first : suc (a .n) ≡ 1 = omega arith in
     rw (c .at .ensures, c .before .before .store .ensures)
-    (said-nothing _ t _ (now (a .image)) _ _ (collects (a .s) t (now (a .collected)) (now (a .image)) (a .n) (a .b) (omega arith) page-read (λ e. omega arith) ∙ rw first))
+    (took-nothing _ t _ (now (a .image)) _ _ (collects (a .s) t (now (a .collected)) (now (a .image)) (a .n) (a .b) (omega arith) page-read (λ e. omega arith) ∙ rw first))
 
 element-copy-out-show-page : tie.Need-element-copy-out-show-page
 element-copy-out-show-page c = search needs
@@ -60,8 +57,12 @@ returns-2 c t =
     let last : 2 ≡ suc (a .n) = omega arith in
     let got = set (now (a .collected)) (a .n) (a .b) in
     let shown = pageReply (pagePart part (now (a .image)) (getD got 0 0) (getD got 1 0)) in
+    let long = page-reply-long (now (a .image)) (getD got 0 0) (getD got 1 0) in
     rw (c .at-command .ensures, c .before .before .clear .ensures)
-    (said-there _ t _ (now (a .image)) (now (a .reply)) _ shown 256 _ (page-reply-long (now (a .image)) (getD got 0 0) (getD got 1 0)) (c .before .before .before .before .before .before .show-page .ensures ∙ ap (λ (l : List ℕ). pageReply (pagePart part (now (a .image)) (getD l 0 0) (getD l 1 0)) ++ drop 256 (now (a .reply))) (c .before .before .before .before .before .before .before .before .before .before .before .store .ensures))
+    (took-there _ t _ (now (a .image)) (now (a .reply)) _ shown 256 _ long
+    (c .before .before .before .before .before .before .show-page .ensures
+    ∙ (ap (λ (l : List ℕ). front (pageReply (pagePart part (now (a .image)) (getD l 0 0) (getD l 1 0))) (now (a .reply))) (c .before .before .before .before .before .before .before .before .before .before .before .store .ensures)
+    ∙ front-fits shown (now (a .reply)) 256 long (omega arith)))
     (finishes (a .s) t (now (a .collected)) (now (a .image)) (a .n) (a .b) (omega arith) page-read 2 last refl ∙ page-shown (a .s) t (now (a .collected)) (now (a .image)) got))
 
 pub page-read-spec : {M : Type 1} → statement M

@@ -1,16 +1,15 @@
--- `port::packets::unit_program` meets its contract: its byte is collected, or is the last that its size asks for and acts.
+-- `port::packets::unit_program` meets its contract: its bytes are collected, and at the last, which its fourth byte tells, they are programmed.
 use native.Mathlib.Numerals.{add-one}
 use native.Mathlib.Omega.{arith}
 use mathlib.Core.Path.{_≡_, refl, ap, sym, _∙_}
 use denote.Ref.{now}
 use mathlib.Core.List.{List}
-use Prim.Native.Nat.{ℕ, suc, _+_}
-use lib.ListN.{length, getD, take, set, length-set}
+use Prim.Native.Nat.{ℕ, _+_}
+use lib.ListN.{getD, take, set, length-set}
 use Rattle.unit.specs.Phases.{need}
 use Rattle.unit.specs.Model.{whole}
-use Rattle.protocol.specs.Outcome.{Outcome}
-use Rattle.protocol.specs.Endings.{finished, programs, erases}
 use Rattle.unit.specs.Phases.Kind.{unit-program}
+use Rattle.protocol.specs.Endings.{finished}
 use Rattle.port.proofs.PacketLaws.{collects-sized, finishes-sized}
 use borrow.Author.Needs.{needs}
 use Rattle.port.proofs.packets.unit_program.Statement.{statement}
@@ -25,8 +24,8 @@ element-copy-out-goes-on c = search needs
 goes-on-requires : tie.Need-goes-on-requires
 goes-on-requires c κs = search needs
 
-add-t13 : tie.Need-add-t13
-add-t13 c = search needs
+add-t14 : tie.Need-add-t14
+add-t14 c = search needs
 
 at-requires : tie.Need-at-requires
 at-requires c κs = search needs
@@ -39,8 +38,14 @@ returns c =
     rw (c .at .ensures, c .before .before .before .before .store .ensures, add-one)
     (sym (collects-sized (a .s) (a .settings) (now (a .collected)) (now (a .image)) (a .n) (a .b) (omega arith) unit-program (λ xs. refl) (c .before .before .before .before .before .before .before .pre .2) h))
 
-unit-program-end-requires : tie.Need-unit-program-end-requires
-unit-program-end-requires c κs = rw (c .before .before .before .before .before .store .ensures, length-set) (c .before .before .before .before .before .before .before .before .pre .1)
+program-unit-requires : tie.Need-program-unit-requires
+program-unit-requires c κs = search needs
+
+clear-requires : tie.Need-clear-requires
+clear-requires c κs = search needs
+
+at-command-requires : tie.Need-at-command-requires
+at-command-requires c κs = search needs
 
 same-length : tie.Need-same-length
 same-length c = search needs
@@ -48,11 +53,13 @@ same-length c = search needs
 returns-2 : tie.Need-returns-2
 unfolding need
 returns-2 c =
-    let a = c .before .before .before .before .before .before .before .before .before .before .before .args in
-    let h = sym (c .before .before .before .before .before .before .goes-on .ensures (set (now (a .collected)) (a .n) (a .b)) (ap (λ (l : List ℕ). getD l 3 0) (sym (c .before .before .before .before .before .before .before .before .store .ensures)))) ∙ c .before .before .before .before .before .if1 .left in
-    c .before .before .unit-program-end .ensures (now (a .collected))
-    ∙ (ap (λ (l : List ℕ). finished unit-program (whole (a .s) (a .settings) (now (a .collected))) (now (a .image)) (take (4 + getD l 3 0) l)) (c .before .before .before .before .before .before .before .before .store .ensures)
-    ∙ sym (finishes-sized (a .s) (a .settings) (now (a .collected)) (now (a .image)) (a .n) (a .b) (omega arith) unit-program (λ xs. refl) (c .before .before .before .before .before .before .before .before .before .before .before .pre .2) h))
+    let a = c .before .before .before .before .before .before .before .before .before .before .before .before .before .before .before .args in
+    let stored = c .before .before .before .before .before .before .before .before .before .before .before .before .store .ensures in
+    let h = sym (c .before .before .before .before .before .before .before .before .before .before .goes-on .ensures (set (now (a .collected)) (a .n) (a .b)) (ap (λ (l : List ℕ). getD l 3 0) (sym stored))) ∙ c .before .before .before .before .before .before .before .before .before .if1 .left in
+    rw (c .at-command .ensures, c .before .clear .ensures)
+    (c .before .before .before .before .before .program-unit .ensures (now (a .collected))
+    ∙ (ap (λ (l : List ℕ). finished unit-program (whole (a .s) (a .settings) (now (a .collected))) (now (a .image)) (take (4 + getD l 3 0) l)) stored
+    ∙ sym (finishes-sized (a .s) (a .settings) (now (a .collected)) (now (a .image)) (a .n) (a .b) (omega arith) unit-program (λ xs. refl) (c .before .before .before .before .before .before .before .before .before .before .before .before .before .before .before .pre .2) h)))
 
 pub unit-program-spec : {M : Type 1} → statement M
 unit-program-spec =
@@ -61,9 +68,11 @@ unit-program-spec =
     store-requires
     element-copy-out-goes-on
     goes-on-requires
-    add-t13
+    add-t14
     at-requires
     returns
-    unit-program-end-requires
+    program-unit-requires
+    clear-requires
+    at-command-requires
     same-length
     returns-2)

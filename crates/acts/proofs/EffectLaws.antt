@@ -1,0 +1,93 @@
+-- Each case of a program and of an erase at its last byte, as the outcome over the parts of a unit, and the bank rule.
+use Prim.Native.Nat.{ℕ, _+_, _-_, _%_, _<_, _≤_}
+use native.Mathlib.Omega.{arith}
+use mathlib.Core.Bool.{Bool, true, false, cond, not, _&&_, false≢true}
+use mathlib.Core.Path.{_≡_, refl, ap, sym, _∙_}
+use mathlib.Core.List.{List}
+use lib.ListN.{length}
+use lib.Dec.{eqb, leb}
+use borrow.Author.Tests.{ne-eqb, eqb-true, leb-true, leb-false, le-leb, lt-leb}
+use Rattle.flash.specs.Blocks.{part}
+use Rattle.flash.specs.Image.{Written, written, program}
+use Rattle.unit.specs.declared.State.{State}
+use Rattle.unit.specs.declared.Settings.{Settings}
+use Rattle.unit.specs.declared.Registers.{Registers}
+use Rattle.unit.specs.Model.{whole, commanded, withSrd, noBytes, ended, standing}
+use Rattle.protocol.specs.Outcome.{quiet}
+use Rattle.protocol.specs.Endings.{reaching, programs, erases}
+use Rattle.acts.specs.Clauses.{carries, unconfirmed}
+
+module _ (s : State) (t : Settings) (got img : List ℕ) where
+  -- a program, where an error stands and where none does
+  pub program-stands : (w : Written) → standing (s .registers) ≡ true → programs (whole s t got) img w ≡ quiet (whole (commanded (s .registers)) t noBytes) img
+  unfolding programs ended
+  program-stands w e = rw e
+
+  pub program-reports : (w : Written) → standing (s .registers) ≡ false
+      → programs (whole s t got) img w ≡ quiet (whole (commanded (withSrd (s .registers) (cond (w .good) 0x80 0x90))) t noBytes) (w .image)
+  unfolding programs ended
+  program-reports w e = rw e
+
+  -- an erase, where it is carried out and where it is not
+  pub erase-reports : (confirm : ℕ) (w : Written) → carries (s .registers) confirm ≡ true
+      → erases (whole s t got) img confirm w ≡ quiet (whole (commanded (withSrd (s .registers) (cond (w .good) 0x80 0xA0))) t noBytes) (w .image)
+  unfolding erases ended carries
+  erase-reports confirm w = go (eqb confirm 0xD0) (standing (s .registers)) refl
+    where
+      go : (d z : Bool) → eqb confirm 0xD0 ≡ d → (d && not z) ≡ true
+          → cond (eqb confirm 0xFF) (quiet (ended (whole s t got) (s .registers)) img) (cond z (quiet (ended (whole s t got) (s .registers)) img) (cond (not d) (quiet (ended (whole s t got) (withSrd (s .registers) 0xB0)) img) (quiet (ended (whole s t got) (withSrd (s .registers) (cond (w .good) 0x80 0xA0))) (w .image))))
+          ≡ quiet (whole (commanded (withSrd (s .registers) (cond (w .good) 0x80 0xA0))) t noBytes) (w .image)
+      go true false d e = rw (eqb-true confirm 0xD0 d)
+      go true true d e = absurd (false≢true e)
+      go false z d e = absurd (false≢true e)
+
+  pub erase-stays : (confirm : ℕ) (w : Written) → carries (s .registers) confirm ≡ false
+      → erases (whole s t got) img confirm w ≡ quiet (whole (commanded (unconfirmed (s .registers) confirm)) t noBytes) img
+  unfolding erases ended carries unconfirmed
+  erase-stays confirm w = go (eqb confirm 0xFF) (standing (s .registers)) (eqb confirm 0xD0)
+    where
+      go : (f z d : Bool) → (d && not z) ≡ false
+          → cond f (quiet (ended (whole s t got) (s .registers)) img) (cond z (quiet (ended (whole s t got) (s .registers)) img) (cond (not d) (quiet (ended (whole s t got) (withSrd (s .registers) 0xB0)) img) (quiet (ended (whole s t got) (withSrd (s .registers) (cond (w .good) 0x80 0xA0))) (w .image))))
+          ≡ quiet (whole (commanded (cond f (s .registers) (cond z (s .registers) (withSrd (s .registers) 0xB0)))) t noBytes) img
+      go true z d e = refl
+      go false true d e = refl
+      go false false false e = refl
+      go false false true e = absurd (false≢true (sym e))
+
+-- within the bank, and past its end
+module _ (most p : ℕ) (img : List ℕ) (a : ℕ) (ds : List ℕ) where
+  pub reached : true ≡ leb (a % 65536 + length ds) most → program part p img a ds ≡ reaching most p img a ds
+  reached e = ap (λ (t : Bool). cond t (program part p img a ds) (written img false)) e
+
+  pub not-reached : false ≡ leb (a % 65536 + length ds) most → written img false ≡ reaching most p img a ds
+  not-reached e = ap (λ (t : Bool). cond t (program part p img a ds) (written img false)) e
+
+-- a sum is at most m where what is left of m is at least its second part
+pub at-most : (l n m : ℕ) → l ≤ m → leb n (m - l) ≡ leb (l + n) m
+at-most l n m h = go (leb n (m - l)) refl
+  where
+    go : (t : Bool) → leb n (m - l) ≡ t → leb n (m - l) ≡ leb (l + n) m
+    go true e = e ∙ sym (le-leb (l + n) m (omega (arith, leb-true n (m - l) e)))
+    go false e = e ∙ sym (lt-leb (l + n) m (omega (arith, leb-false n (m - l) e)))
+
+-- what a confirm byte and a standing error decide
+module _ (r : Registers) (confirm : ℕ) where
+  pub carried : confirm ≡ 0xD0 → (stands : Bool) → stands ≡ standing r → not stands ≡ carries r confirm
+  unfolding carries
+  carried e stands s = rw (e, s)
+
+  pub carried-at-d0-alone : (confirm ≡ 0xD0 → ⊥) → false ≡ carries r confirm
+  unfolding carries
+  carried-at-d0-alone e = rw (ne-eqb confirm 0xD0 e)
+
+  pub cancelled : confirm ≡ 0xFF → r ≡ unconfirmed r confirm
+  unfolding unconfirmed
+  cancelled e = rw e
+
+  pub stood : (confirm ≡ 0xFF → ⊥) → standing r ≡ true → r ≡ unconfirmed r confirm
+  unfolding unconfirmed
+  stood e s = rw (ne-eqb confirm 0xFF e, s)
+
+  pub not-confirmed : (confirm ≡ 0xFF → ⊥) → standing r ≡ false → withSrd r 0xB0 ≡ unconfirmed r confirm
+  unfolding unconfirmed
+  not-confirmed e s = rw (ne-eqb confirm 0xFF e, s)

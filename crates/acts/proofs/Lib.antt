@@ -1,0 +1,3 @@
+pub mod EffectLaws
+pub mod FrontLaws
+pub mod IdLaws
