@@ -1,3 +1,4 @@
 pub mod EffectLaws
 pub mod FrontLaws
 pub mod IdLaws
+pub mod Pinned

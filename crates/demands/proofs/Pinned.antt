@@ -1,4 +1,4 @@
--- "Show that no second outcome satisfies the same statement": the clause of every function that the library crates show is an equation with all that the call leaves, and two things that equal a third are equal.
+-- "Show that no second outcome satisfies the same statement": the clause of every function that flash, unit and port show is an equation with all that the call leaves, and two things that equal a third are equal.
 -- An outcome is the result; where a call also leaves an image or an area, all of them together.
 use Prim.Native.Nat.{ℕ}
 use mathlib.Core.Bool.{Bool}
@@ -6,7 +6,7 @@ use mathlib.Core.Path.{_≡_, sym, _∙_}
 use mathlib.Core.List.{List}
 use Rattle.flash.specs.declared.Found.{Found}
 use Rattle.flash.specs.Image.{Written}
-use Rattle.flash.specs.Clauses.{BlockOfEnsures, PageEnsures, IdEnsures, BlankEnsures, ProgramEnsures, EraseEnsures, EraseAllEnsures}
+use Rattle.flash.specs.Clauses.{BlockOfEnsures, PageAddressEnsures, PageEnsures, IdEnsures, BlankEnsures, ProgramEnsures, EraseEnsures, EraseAllEnsures}
 use Rattle.unit.specs.declared.Unit.{Unit as Port}
 use Rattle.unit.specs.declared.Registers.{Registers}
 use Rattle.unit.specs.declared.Settings.{Settings}
@@ -46,6 +46,9 @@ module _ (image : List ℕ) where
   -- erase_all(image, protection): the image that it leaves
   pub flash-erase-all-pinned : (protection : ℕ) → Pins (λ (exit : List ℕ). EraseAllEnsures image protection exit)
   flash-erase-all-pinned protection = pinned _
+
+pub flash-page-address-pinned : (mid high : ℕ) → Pins (λ (r : ℕ). PageAddressEnsures mid high r)
+flash-page-address-pinned mid high = pinned _
 
 pub flash-block-of-pinned : (address : ℕ) → Pins (λ (r : Found). BlockOfEnsures address r)
 flash-block-of-pinned address = pinned _

@@ -4,12 +4,16 @@ use mathlib.Core.Path.{_≡_}
 use mathlib.Core.Bool.{Bool}
 use mathlib.Core.List.{List}
 use Rattle.flash.specs.declared.Found.{Found}
-use Rattle.flash.specs.Blocks.{part, find}
+use Rattle.flash.specs.Blocks.{part, find, pageAddress}
 use Rattle.flash.specs.Image.{storedId, isBlank, pagePart, written, program, eraseBlock, eraseAll}
 
 -- the block of an address
 abbrev pub BlockOfEnsures : ℕ → Found → Type 0
 BlockOfEnsures address r = r ≡ find part address
+
+-- the first address of a page
+abbrev pub PageAddressEnsures : ℕ → ℕ → ℕ → Type 0
+PageAddressEnsures mid high r = r ≡ pageAddress mid high
 
 -- the page of an image: the part that is returned
 abbrev pub PageEnsures : List ℕ → ℕ → ℕ → List ℕ → Type 0

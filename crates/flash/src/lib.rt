@@ -4,9 +4,9 @@ ghost use mathlib.Core.List.{List};
 ghost use Prim.Native.Nat.{ℕ, _+_, _≤_, _<_};
 ghost use lib.ListN.{length};
 ghost use Rattle.flash.specs.Lists.{same};
-ghost use Rattle.flash.specs.Blocks.{block, part, holds, find, guarded, free, blockFrom, blockSize, pageAddress};
+ghost use Rattle.flash.specs.Blocks.{block, part, holds, find, guarded, free, blockFrom, blockSize};
 ghost use Rattle.flash.specs.Image.{burn, freeFrom, permitted, erased, wiped, wipedFree};
-ghost use Rattle.flash.specs.Clauses.{BlockOfEnsures, PageEnsures, IdEnsures, BlankEnsures, ProgramEnsures, EraseEnsures, EraseAllEnsures};
+ghost use Rattle.flash.specs.Clauses.{BlockOfEnsures, PageAddressEnsures, PageEnsures, IdEnsures, BlankEnsures, ProgramEnsures, EraseEnsures, EraseAllEnsures};
 
 // What an address names: the number of its block and its place in the image, or nothing of the flash.
 pub enum Found {
@@ -49,8 +49,9 @@ pub fn block_of(address: u32) -> Found
     Found::Outside
 }
 
+// The first address of a page: its low byte is 00.
 pub fn page_address(mid: u8, high: u8) -> u32
-    ensures { λ r. ⌜ r ≡ pageAddress mid high ⌝ }
+    ensures { λ r. ⌜ PageAddressEnsures mid high r ⌝ }
 {
     (mid as u32) * 256 + (high as u32) * 65536
 }

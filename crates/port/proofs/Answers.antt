@@ -35,7 +35,7 @@ front-fits l area n e h = rw (take-all (length area) l (omega arith), e)
 -- a reply by value: its number of bytes, and the bytes at the front
 module _ (r : Said) (t : Settings) (got img : List ℕ) (o : Outcome) (e : said r t got img ≡ counted o) where
   counts : length (take (r .len) (r .reply)) ≡ r .len
-  counts = ap (λ (p : Outcome × ℕ). length (p .0 .reply)) e ∙ sym (ap (λ (p : Outcome × ℕ). p .1) e)
+  counts = ap (λ (p : Outcome × ℕ × List ℕ). length (p .0 .reply)) e ∙ sym (ap (λ (p : Outcome × ℕ × List ℕ). p .1) e)
 
   pub few-said : length (r .reply) ≡ 8 → r .len ≤ 8
   few-said h = omega (arith, counts, length-take (r .len) (r .reply))
@@ -43,7 +43,7 @@ module _ (r : Said) (t : Settings) (got img : List ℕ) (o : Outcome) (e : said 
   pub took-said : (q : Took) (area area′ : List ℕ) → q ≡ record { state = r .state; len = r .len } → area′ ≡ take (r .len) (r .reply) ++ drop (r .len) area
       → took q t got img area′ ≡ answered o 1 area
   took-said q area area′ p d =
-      rw p (took-there (r .state) t got img area o (take (r .len) (r .reply)) (r .len) area′ counts d (sym (ap (λ (p : Outcome × ℕ). p .0) e)))
+      rw p (took-there (r .state) t got img area o (take (r .len) (r .reply)) (r .len) area′ counts d (sym (ap (λ (p : Outcome × ℕ × List ℕ). p .0) e)))
 
 -- what an arm of the step leaves, at the position that the arm is for
 module _ (s : State) (t : Settings) (got img area : List ℕ) (b : ℕ) {p : Position} (e : positionOf (s .phase) ≡ p) where
