@@ -8,6 +8,7 @@ use std::time::Instant;
 mod answer;
 mod case;
 mod draw;
+mod line;
 mod random;
 mod sessions;
 mod watch;

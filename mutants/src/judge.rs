@@ -8,7 +8,7 @@ use std::process::Command;
 pub enum Verdict {
     /// A fact that no longer holds, and where.
     Fact(String),
-    /// Only the proof's text no longer fits, or another error.
+    /// Only the proof's text no longer fits, or another error; and what a run shows.
     Unfit(String),
     Survived,
     /// It could not be tried.
@@ -67,11 +67,25 @@ fn tried(root: &Path, from: &Path, room: &Path, change: &Change) -> Result<Verdi
     Ok(match word {
         "fact" => Verdict::Fact(place(line)),
         "none" => Verdict::Untried("rt failed without an error of a proof".into()),
-        _ => Verdict::Unfit(format!(
-            "{}: {}",
-            place(line),
-            line.chars().take(300).collect::<String>()
-        )),
+        _ => Verdict::Unfit(format!("{}; {}", place(line), run(root, room, change)?)),
+    })
+}
+
+/// What a run of the changed code shows where no fact refused it.
+fn run(root: &Path, room: &Path, change: &Change) -> Result<String, String> {
+    if change.laws_only {
+        return Ok("a definition, which is not run".into());
+    }
+    let said = Command::new("sh")
+        .arg(root.join("tools/differs"))
+        .arg(room)
+        .output()
+        .map_err(|e| format!("tools/differs: {e}"))?;
+    let told = String::from_utf8_lossy(&said.stdout).trim().to_string();
+    Ok(match said.status.code() {
+        Some(0) => format!("a run differs from the second program: {told}"),
+        Some(1) => format!("NO RUN DIFFERS: {told}"),
+        _ => format!("CANNOT BE RUN: {told}"),
     })
 }
 

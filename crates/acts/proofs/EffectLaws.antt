@@ -70,6 +70,14 @@ at-most l n m h = go (leb n (m - l)) refl
     go true e = e ∙ sym (le-leb (l + n) m (omega (arith, leb-true n (m - l) e)))
     go false e = e ∙ sym (lt-leb (l + n) m (omega (arith, leb-false n (m - l) e)))
 
+-- SRD after what could be done, and after what could not
+module _ (r : Registers) (bad : ℕ) (good : Bool) where
+  pub done-well : good ≡ true → withSrd r 0x80 ≡ withSrd r (cond good 0x80 bad)
+  done-well e = rw e
+
+  pub done-badly : good ≡ false → withSrd r bad ≡ withSrd r (cond good 0x80 bad)
+  done-badly e = rw e
+
 -- what a confirm byte and a standing error decide
 module _ (r : Registers) (confirm : ℕ) where
   pub carried : confirm ≡ 0xD0 → (stands : Bool) → stands ≡ standing r → not stands ≡ carries r confirm

@@ -7,10 +7,10 @@ use mathlib.Core.List.{List, [], _∷_}
 use lib.ListN.{length}
 use lib.Dec.{ltb, leb}
 use native.Mathlib.Decide.{decLt}
-use borrow.Author.Tests.{ltb-true, leb-true, lt-ltb, le-leb}
+use borrow.Author.Tests.{ltb-true, leb-true, lt-ltb, le-leb, lt-leb}
 use Rattle.flash.specs.declared.Found.{Found}
 use Rattle.flash.specs.declared.Found.the-variants.{Inside, Outside}
-use Rattle.flash.specs.Blocks.{Block, part, Rising, imageSize, holds, findFrom, find, blockFrom, blockSize}
+use Rattle.flash.specs.Blocks.{Block, block, part, Rising, imageSize, holds, findFrom, find, blockFrom, blockSize}
 use Rattle.flash.proofs.Lists.{and-both, both-and, cond-elim}
 
 pub rising : Rising 0 part
@@ -57,6 +57,15 @@ find-shift i f (b ∷ bs) a =
 find-cons : (b : Block) (bs : List Block) (a : ℕ) → find (b ∷ bs) a ≡ cond (holds b a) (Inside 0 (0 + (a - b .address))) (shift 1 (0 + b .size) (find bs a))
 unfolding find
 find-cons b bs a = ap (λ (w : Found). cond (holds b a) (Inside 0 (0 + (a - b .address))) w) (find-shift 1 (0 + b .size) bs a)
+
+-- an address from the block's first on, and one before it
+pub held-from : (f n a : ℕ) → f ≤ a → ltb a (f + n) ≡ holds (block f n) a
+unfolding holds
+held-from f n a h = rw (le-leb f a h)
+
+pub not-held : (f n a : ℕ) → a < f → false ≡ holds (block f n) a
+unfolding holds
+not-held f n a h = rw (lt-leb f a h)
 
 pub holds-within : (b : Block) (a : ℕ) → holds b a ≡ true → (b .address ≤ a) × (a < b .address + b .size)
 unfolding holds

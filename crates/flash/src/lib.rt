@@ -146,14 +146,14 @@ fn are_free(protection: u8, address: u32, n: usize) -> bool
     true
 }
 
-// May n bytes be programmed from this address on?
-fn is_permitted(protection: u8, address: u32, n: usize) -> bool
-    ensures { λ r. ⌜ ((ds : List ℕ) → length ds ≡ n → r ≡ permitted part protection address ds) ⌝ }
+// May these bytes be programmed from this address on?
+fn is_permitted(protection: u8, address: u32, new: &[u8]) -> bool
+    ensures { λ r. ⌜ r ≡ permitted part protection address (now (new .entry)) ⌝ }
 {
-    if n == 0 {
+    if new.len() == 0 {
         return false;
     }
-    are_free(protection, address, n)
+    are_free(protection, address, new.len())
 }
 
 // Old AND new, byte by byte, and whether every byte then equals its data.
@@ -183,7 +183,7 @@ pub fn program(image: &mut [u8], protection: u8, address: u32, new: &[u8]) -> bo
     if image.len() != IMAGE {
         return false;
     }
-    if !is_permitted(protection, address, new.len()) {
+    if !is_permitted(protection, address, new) {
         return false;
     }
     match block_of(address) {

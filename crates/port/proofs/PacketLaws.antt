@@ -2,13 +2,13 @@
 use Prim.Native.Nat.{ℕ, zero, suc, _+_, _-_, _<_}
 use native.Mathlib.Omega.{arith}
 use native.Mathlib.Nat.{sub-zero, zero-sub, suc-sub-suc}
-use mathlib.Core.Bool.{Bool, true, false}
+use mathlib.Core.Bool.{Bool, true, false, _||_}
 use mathlib.Core.Path.{_≡_, refl, ap, sym, _∙_}
 use mathlib.Core.List.{List, [], _∷_, _++_}
 use lib.ListN.{length, getD, take, drop, set, length-set}
 use lib.Seq.{take-nil, take-suc-set, getD-take, length-take-le}
 use lib.Dec.{eqb, ltb}
-use borrow.Author.Tests.{eqb-true, eqb-false, ltb-false, ltb-true}
+use borrow.Author.Tests.{eqb-true, eqb-false, ltb-false, ltb-true, lt-ltb}
 use Rattle.flash.specs.Blocks.{part, pageAddress, byteAddress}
 use Rattle.flash.specs.Image.{written, eraseBlock, eraseAll, pagePart}
 use Rattle.unit.specs.declared.State.{State}
@@ -23,6 +23,19 @@ use Rattle.protocol.specs.Outcome.{Outcome, says, quiet}
 use Rattle.protocol.specs.Endings.{pageReply, reaching, bankEnd, programmedBy, programs, erases, judged, finished}
 use Rattle.protocol.specs.Step.{body, completes, inPacket}
 use Rattle.protocol.proofs.Steps.{packet-last, packet-more, body-stored}
+
+-- whether more bytes follow the one at place n: before the fourth always, and from it on as the size says
+more-follow : (n : ℕ) (got : List ℕ) → (ltb n 3 || ltb (suc n) (4 + getD got 3 0)) ≡ ltb (suc n) (4 + getD (take (suc n) got) 3 0)
+more-follow n got = go (ltb n 3) refl
+  where
+    go : (t : Bool) → ltb n 3 ≡ t → (t || ltb (suc n) (4 + getD got 3 0)) ≡ ltb (suc n) (4 + getD (take (suc n) got) 3 0)
+    go true e = sym (lt-ltb (suc n) (4 + getD (take (suc n) got) 3 0) (omega (arith, ltb-true n 3 e)))
+    go false e = rw (getD-take (suc n) got 3 0 (omega (arith, ltb-false n 3 e)))
+
+pub told : (n : ℕ) (got stored : List ℕ) (r t : Bool) → stored ≡ got → r ≡ (ltb n 3 || ltb (suc n) (4 + getD stored 3 0)) → r ≡ t
+    → ltb (suc n) (4 + getD (take (suc n) got) 3 0) ≡ t
+told n got stored r t e p q =
+    sym (more-follow n got) ∙ (ap (λ (l : List ℕ). ltb n 3 || ltb (suc n) (4 + getD l 3 0)) (sym e) ∙ (sym p ∙ q))
 
 module _ (s : State) (t : Settings) (got img : List ℕ) (n b : ℕ) (long : n < length got) where
   pub collects : (k : Kind) → (suc n ≡ need k (take (suc n) (set got n b)) → ⊥)

@@ -1,8 +1,8 @@
 // The collected bytes.
 ghost use mathlib.Core.Path.{_≡_};
-ghost use mathlib.Core.List.{List};
-ghost use Prim.Native.Nat.{ℕ, suc, _+_, _<_};
-ghost use lib.ListN.{getD, set, take};
+ghost use mathlib.Core.Bool.{_||_};
+ghost use Prim.Native.Nat.{suc, _+_, _<_};
+ghost use lib.ListN.{set};
 ghost use lib.Dec.{ltb};
 
 pub(crate) fn store(collected: &mut [u8; 259], at: usize, b: u8)
@@ -15,7 +15,7 @@ pub(crate) fn store(collected: &mut [u8; 259], at: usize, b: u8)
 // More bytes follow the one at place n of a packet whose fourth collected byte is its size.
 pub(crate) fn goes_on(n: usize, size: u8) -> bool
     requires { ⌜ n < 259 ⌝ }
-    ensures { λ r. ⌜ ((got : List ℕ) → getD got 3 0 ≡ size → r ≡ ltb (suc n) (4 + getD (take (suc n) got) 3 0)) ⌝ }
+    ensures { λ r. ⌜ r ≡ (ltb n 3 || ltb (suc n) (4 + size)) ⌝ }
 {
     if n < 3 {
         return true;

@@ -57,14 +57,14 @@ pub fn start(image: &[u8], inputs: Inputs) -> Started
     }
 }
 
-// Why a byte or a run is refused, with an image and a reply area of these lengths: the lowest number, or 0.
-fn refusal_of(size: usize, room: usize, u: Unit) -> u8
-    ensures { λ r. ⌜ ((img area : List ℕ) → length img ≡ size → length area ≡ room → r ≡ refusal u img area) ⌝ }
+// Why a byte or a run is refused: the lowest number, or 0.
+fn refusal_of(u: Unit, image: &[u8], reply: &[u8]) -> u8
+    ensures { λ r. ⌜ r ≡ refusal u (now (image .entry)) (now (reply .entry)) ⌝ }
 {
-    if size != flash::IMAGE {
+    if image.len() != flash::IMAGE {
         return 1;
     }
-    if room < flash::PAGE {
+    if reply.len() < flash::PAGE {
         return 3;
     }
     if u.in_range() { 0 } else { 4 }
@@ -142,7 +142,7 @@ fn step_in(
 pub fn byte(u: Unit, image: &mut [u8], reply: &mut [u8], b: u8) -> Answer
     ensures { λ r. ⌜ ByteEnsures u (now (image .entry)) (now (reply .entry)) b r (now (image .exit)) (now (reply .exit)) ⌝ }
 {
-    let no = refusal_of(image.len(), reply.len(), u);
+    let no = refusal_of(u, image, reply);
     if no != 0 {
         return refuse(no, u);
     }
@@ -205,7 +205,7 @@ fn run_in(
 pub fn run(u: Unit, image: &mut [u8], bytes: &[u8], reply: &mut [u8]) -> Answer
     ensures { λ r. ⌜ RunEnsures u (now (image .entry)) (now (reply .entry)) (now (bytes .entry)) r (now (image .exit)) (now (reply .exit)) ⌝ }
 {
-    let no = refusal_of(image.len(), reply.len(), u);
+    let no = refusal_of(u, image, reply);
     if no != 0 {
         return refuse(no, u);
     }

@@ -1,18 +1,13 @@
+//! The bench program's text.
+
+use crate::support::{barely_blank, woken, WORKED_EXAMPLE};
 use reference::bench::text;
 use reference::sessions::image;
 
-/// Sixteen 00, B0 and these bytes.
-fn woken(bytes: &[u8]) -> Vec<u8> {
-    let mut input = vec![0x00; 16];
-    input.push(0xB0);
-    input.extend_from_slice(bytes);
-    input
-}
-
 #[test]
 fn worked_example() {
-    let expected = "17: B0\n18: 80 00\n19: 56 45 52 2E 32 2E 30 30\nend 80 00\n";
-    assert_eq!(text(Some(&image()), &woken(&[0x70, 0xFB])), expected);
+    let input = woken(&[0x70, 0xFB]);
+    assert_eq!(text(Some(&image()), &input), WORKED_EXAMPLE);
 }
 
 #[test]
@@ -60,8 +55,7 @@ fn the_bench_protects_nothing_and_does_not_write_the_image_back() {
     nearly[20_477..].fill(0xFF);
     // 0FFFC holds 00 here, 0FFFD to 0FFFF FF: not blank.
     assert_eq!(text(Some(&nearly), &[]), "end 80 00\n");
-    let mut blank = vec![0x00; 20_480];
-    blank[20_476..20_479].fill(0xFF);
+    let blank = barely_blank();
     // Erase all, then page 02000.
     let input = woken(&[0xA7, 0xD0, 0xFF, 0x20, 0x00]);
     let page = format!("22:{}", " FF".repeat(256));

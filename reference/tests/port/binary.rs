@@ -1,5 +1,6 @@
 //! The binary itself.
 
+use crate::support::{barely_blank, framed, woken, WORKED_EXAMPLE};
 use reference::sessions::image;
 use std::fs;
 use std::io::Write;
@@ -47,11 +48,9 @@ fn usage() {
 #[test]
 fn bench() {
     let here = folder("bench", Some(&image()));
-    let mut input = vec![0; 16];
-    input.extend_from_slice(&[0xB0, 0x70, 0xFB]);
+    let mut input = woken(&[0x70, 0xFB]);
     let output = reference(&["bench"], &here, &input);
-    let expected = "17: B0\n18: 80 00\n19: 56 45 52 2E 32 2E 30 30\nend 80 00\n";
-    assert_eq!(output.stdout, expected.as_bytes());
+    assert_eq!(output.stdout, WORKED_EXAMPLE.as_bytes());
     assert_eq!(output.status.code(), Some(0));
     // 4,096 bytes at most, also where much more comes.
     input.resize(4094, 0x99);
@@ -59,7 +58,7 @@ fn bench() {
     input.resize(200_000, 0xB3);
     let output = reference(&["bench"], &here, &input);
     let expected = [
-        expected.trim_end_matches("end 80 00\n"),
+        WORKED_EXAMPLE.trim_end_matches("end 80 00\n"),
         "4095: B1\n4096: B2\nend 80 00\n",
     ];
     assert_eq!(output.stdout, expected.concat().as_bytes());
@@ -83,12 +82,9 @@ fn bench_without_a_good_image() {
 
 #[test]
 fn bench_leaves_the_image_file() {
-    let mut blank = vec![0x00; 20_480];
-    blank[20_476..20_479].fill(0xFF);
+    let blank = barely_blank();
     let here = folder("kept", Some(&blank));
-    let mut input = vec![0; 16];
-    input.extend_from_slice(&[0xB0, 0xA7, 0xD0]);
-    let output = reference(&["bench"], &here, &input);
+    let output = reference(&["bench"], &here, &woken(&[0xA7, 0xD0]));
     assert_eq!(output.stdout, b"17: B0\nend 80 0C\n");
     assert_eq!(fs::read(here.join("unit.img")).unwrap(), blank);
 }
@@ -107,10 +103,7 @@ fn replay() {
     let output = reference(&["replay"], &here, &[]);
     assert_eq!((output.status.code(), output.stdout), (Some(0), vec![]));
     // An empty image and no groups; the start is refused.
-    let mut body = vec![0; 3 + 267];
-    body.extend_from_slice(&[0; 7]);
-    let mut batch = (body.len() as u32).to_le_bytes().to_vec();
-    batch.extend_from_slice(&body);
+    let mut batch = framed(&[0; 3 + 267 + 7]);
     let output = reference(&["replay"], &here, &batch);
     let mut idle = [0; 267];
     idle[3] = 0x80;

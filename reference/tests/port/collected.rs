@@ -1,16 +1,22 @@
 //! The collected bytes: where they go, when they are cleared and when they are kept.
 
+use crate::support::in_packet;
 use reference::sessions::{page_program, unit_program, Rig};
 use reference::{Command, Phase};
 
 const STALE: [u8; 259] = [0x77; 259];
 const CLEAR: [u8; 259] = [0; 259];
 
+/// The same unit with stale collected bytes.
+fn stale(mut rig: Rig) -> Rig {
+    rig.unit.collected = STALE;
+    rig
+}
+
 #[test]
 fn a_taken_packet_of_one_byte_clears_them() {
     for b in [0x00, 0x50, 0x70, 0xFB, 0xB0, 0xB1, 0xB2, 0xB3, 0xB4] {
-        let mut rig = Rig::open(0);
-        rig.unit.collected = STALE;
+        let mut rig = stale(Rig::open(0));
         rig.feed(&[b]);
         assert_eq!(rig.unit.collected, CLEAR);
     }
@@ -19,13 +25,11 @@ fn a_taken_packet_of_one_byte_clears_them() {
 #[test]
 fn dropped_unknown_and_asleep_bytes_leave_them() {
     for b in [0xFF, 0x41, 0x49, 0x20, 0xA7, 0x50, 0xB5, 0x01, 0x71, 0x38] {
-        let mut rig = Rig::closed(0);
-        rig.unit.collected = STALE;
+        let mut rig = stale(Rig::closed(0));
         rig.feed(&[b]);
         assert_eq!(rig.unit.collected, STALE);
     }
-    let mut rig = Rig::asleep(0);
-    rig.unit.collected = STALE;
+    let mut rig = stale(Rig::asleep(0));
     rig.feed(&[0x70, 0xB0, 0x00]);
     rig.feed(&[0x00; 16]);
     // The waking B0 leaves them, the second B0 is a packet.
@@ -38,16 +42,10 @@ fn dropped_unknown_and_asleep_bytes_leave_them() {
 #[test]
 fn the_command_byte_of_a_longer_packet_leaves_them() {
     for b in [0xFF, 0x41, 0x49, 0x20, 0xA7, 0xF5] {
-        let mut rig = Rig::open(0);
-        rig.unit.collected = STALE;
+        let mut rig = stale(Rig::open(0));
         rig.feed(&[b]);
-        assert_eq!(
-            rig.unit.phase,
-            Phase::InPacket {
-                command: Command::from_byte(b).unwrap(),
-                received: 0
-            }
-        );
+        let command = Command::from_byte(b).unwrap();
+        assert_eq!(rig.unit.phase, in_packet(command, 0));
         assert_eq!(rig.unit.collected, STALE);
     }
 }
@@ -56,8 +54,7 @@ fn the_command_byte_of_a_longer_packet_leaves_them() {
 fn bytes_are_collected_from_place_0_on_without_the_command() {
     // No gap for the low byte that 41, 20 and FF do not have.
     for (command, place) in [(0xFF, 1), (0x41, 3), (0x20, 2), (0x49, 3), (0xF5, 3)] {
-        let mut rig = Rig::open(0);
-        rig.unit.collected = STALE;
+        let mut rig = stale(Rig::open(0));
         let given = [0x11, 0x12, 0x13];
         rig.feed(&[command]);
         rig.feed(&given[..place]);
@@ -94,9 +91,8 @@ fn every_end_of_a_taken_packet_clears_them() {
     for packet in packets {
         // Also where a standing error makes the packet do nothing.
         for srd in [0x80, 0xB0] {
-            let mut rig = Rig::open(0);
+            let mut rig = stale(Rig::open(0));
             rig.unit.srd = srd;
-            rig.unit.collected = STALE;
             rig.feed(&packet);
             assert_eq!(rig.unit.phase, Phase::AtCommand);
             assert_eq!(rig.unit.collected, CLEAR);
@@ -111,13 +107,7 @@ fn a_stale_fourth_byte_has_no_meaning_before_the_size_byte() {
         rig.unit.collected[3] = stale;
         rig.feed(&[0x49, 0x00, 0x20, 0x00]);
         rig.feed(&[0x01]);
-        assert_eq!(
-            rig.unit.phase,
-            Phase::InPacket {
-                command: Command::UnitProgram,
-                received: 4
-            }
-        );
+        assert_eq!(rig.unit.phase, in_packet(Command::UnitProgram, 4));
         rig.feed(&[0x5A]);
         assert_eq!((rig.at(0x02000), rig.unit.srd), (0x5A, 0x80));
     }
@@ -125,12 +115,8 @@ fn a_stale_fourth_byte_has_no_meaning_before_the_size_byte() {
 
 #[test]
 fn a_hand_made_packet_in_progress_goes_on_with_what_it_collected() {
-    let mut rig = Rig::open(0);
-    rig.unit.phase = Phase::InPacket {
-        command: Command::UnitProgram,
-        received: 6,
-    };
-    rig.unit.collected = STALE;
+    let mut rig = stale(Rig::open(0));
+    rig.unit.phase = in_packet(Command::UnitProgram, 6);
     rig.unit.collected[..6].copy_from_slice(&[0xFE, 0x27, 0x00, 0x03, 0x01, 0x02]);
     rig.feed(&[0x04]);
     let cells = [rig.at(0x027FE), rig.at(0x027FF), rig.at(0x02800)];

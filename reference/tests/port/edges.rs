@@ -1,5 +1,6 @@
 //! Edges of blocks and banks, through packets.
 
+use crate::support::{all_are, is_protected, open_over, CELLS};
 use reference::sessions::{page_program, unit_program, Rig};
 
 /// First and last address of the blocks.
@@ -10,94 +11,103 @@ const BLOCKS: [(u32, u32); 4] = [
     (0x0E000, 0x0FFFF),
 ];
 
-/// SRD after a unit program of zeros: all are written where it is 80, else none.
-fn program(protection: u8, address: u32, len: usize) -> u8 {
+/// Whether a unit program of zeros is permitted: SRD is 80 and all are written, or 90 and none.
+fn permits(protection: u8, address: u32, len: usize) -> bool {
     let mut rig = Rig::open(protection);
     let before = rig.image.clone();
     rig.feed(&unit_program(address, &vec![0; len]));
     match rig.unit.srd {
         0x80 => assert!((address..address + len as u32).all(|a| rig.at(a) == 0)),
-        _ => assert_eq!(rig.image, before),
+        srd => assert_eq!((srd, rig.image), (0x90, before)),
     }
-    rig.unit.srd
+    rig.unit.srd == 0x80
+}
+
+/// With nothing protected, a program of this length is permitted or not at all these addresses.
+#[track_caller]
+fn all_permit(expected: bool, len: usize, addresses: &[u32]) {
+    for &address in addresses {
+        assert_eq!(permits(0, address, len), expected, "{address:05X}");
+    }
+}
+
+/// Whether a page is inside: on an image of 42 a read gives 42 and a program of 02 changes the page
+/// alone, or the read gives FF and the program is an error and changes nothing.
+fn is_inside(mid: u8, high: u8) -> bool {
+    let mut rig = open_over(0x42, 0);
+    let page = rig.feed(&[0xFF, mid, high]);
+    rig.feed(&page_program(mid, high, 0x02));
+    let count = |byte| rig.image.iter().filter(|&&cell| cell == byte).count();
+    let inside = rig.unit.srd == 0x80;
+    let (read, changed) = if inside { (0x42, 256) } else { (0xFF, 0) };
+    assert_eq!(page, [read; 256]);
+    assert_eq!((count(0x02), count(0x42)), (changed, 20_480 - changed));
+    assert_eq!(rig.unit.srd, if inside { 0x80 } else { 0x90 });
+    inside
+}
+
+/// The block that a block erase on an image of 00 erases: it alone and whole. Where there is none
+/// SRD is A0.
+fn erased_block(protection: u8, mid: u8, high: u8) -> Option<usize> {
+    let mut rig = open_over(0x00, protection);
+    rig.feed(&[0x20, mid, high, 0xD0]);
+    let erased = (0..4).find(|&block| rig.image[CELLS[block].start] == 0xFF);
+    for (block, cells) in CELLS.into_iter().enumerate() {
+        let expected = if erased == Some(block) { 0xFF } else { 0x00 };
+        assert!(all_are(expected, &rig.image[cells]));
+    }
+    assert_eq!(rig.unit.srd, if erased.is_some() { 0x80 } else { 0xA0 });
+    erased
 }
 
 #[test]
 fn single_bytes_at_the_edges() {
     for (first, last) in BLOCKS {
-        assert_eq!(program(0, first, 1), 0x80);
-        assert_eq!(program(0, last, 1), 0x80);
+        all_permit(true, 1, &[first, last]);
     }
-    for outside in [
+    let outside = [
         0x00000, 0x01FFF, 0x03000, 0x0BFFF, 0x10000, 0x12000, 0x1C000, 0x1FFF0, 0xFFFFFF, 0xFFDF00,
-    ] {
-        assert_eq!(program(0, outside, 1), 0x90);
-    }
+    ];
+    all_permit(false, 1, &outside);
 }
 
 #[test]
 fn two_bytes_over_the_edges() {
-    assert_eq!(program(0, 0x01FFF, 2), 0x90);
-    assert_eq!(program(0, 0x027FF, 2), 0x80);
-    assert_eq!(program(0, 0x02FFF, 2), 0x90);
-    assert_eq!(program(0, 0x0BFFF, 2), 0x90);
-    assert_eq!(program(0, 0x0DFFF, 2), 0x80);
-    assert_eq!(program(0, 0x0FFFF, 2), 0x90);
-    assert_eq!(program(0, 0x0FFFE, 2), 0x80);
+    all_permit(false, 2, &[0x01FFF, 0x02FFF, 0x0BFFF, 0x0FFFF]);
+    all_permit(true, 2, &[0x027FF, 0x0DFFF, 0x0FFFE]);
 }
 
 #[test]
 fn a_protected_neighbour_stops_the_whole_program() {
     for (seam, left, right) in [(0x02800, 0, 1), (0x0E000, 2, 3)] {
         for protection in 0..=15 {
-            let allowed = protection & (1 << left) == 0 && protection & (1 << right) == 0;
-            let expected = if allowed { 0x80 } else { 0x90 };
-            assert_eq!(program(protection, seam - 1, 2), expected);
-            assert_eq!(program(protection, seam - 100, 255), expected);
-            let expected = if protection & (1 << left) == 0 {
-                0x80
-            } else {
-                0x90
-            };
-            assert_eq!(program(protection, seam - 255, 255), expected);
-            let expected = if protection & (1 << right) == 0 {
-                0x80
-            } else {
-                0x90
-            };
-            assert_eq!(program(protection, seam, 255), expected);
+            let left_free = !is_protected(protection, left);
+            let right_free = !is_protected(protection, right);
+            let both_free = left_free && right_free;
+            assert_eq!(permits(protection, seam - 1, 2), both_free);
+            assert_eq!(permits(protection, seam - 100, 255), both_free);
+            assert_eq!(permits(protection, seam - 255, 255), left_free);
+            assert_eq!(permits(protection, seam, 255), right_free);
         }
     }
 }
 
 #[test]
 fn the_end_of_the_bank_with_255_bytes() {
-    assert_eq!(program(0, 0x0FF01, 255), 0x80);
-    assert_eq!(program(0, 0x0FF02, 255), 0x90);
+    all_permit(true, 255, &[0x0FF01]);
+    all_permit(false, 255, &[0x0FF02]);
     // A bank's end does not wrap to its beginning, nor the last address to the first.
-    assert_eq!(program(0, 0xFFFFFF, 255), 0x90);
-    assert_eq!(program(0, 0xFF2000, 16), 0x90);
+    all_permit(false, 255, &[0xFFFFFF]);
+    all_permit(false, 16, &[0xFF2000]);
 }
 
 #[test]
 fn pages_inside_and_outside() {
     for mid in 0..=0xFF {
         let inside = matches!(mid, 0x20..=0x2F | 0xC0..=0xFF);
-        let mut rig = Rig::open(0);
-        rig.image.fill(0x42);
-        let expected = if inside { 0x42 } else { 0xFF };
-        assert_eq!(rig.feed(&[0xFF, mid, 0x00]), [expected; 256]);
-        rig.feed(&page_program(mid, 0x00, 0x02));
-        assert_eq!(rig.unit.srd, if inside { 0x80 } else { 0x90 });
-        let changed = rig.image.iter().filter(|&&byte| byte == 0x02).count();
-        assert_eq!(changed, if inside { 256 } else { 0 });
+        assert_eq!(is_inside(mid, 0x00), inside);
         for high in [0x01, 0x10, 0x80, 0xFF] {
-            let mut rig = Rig::open(0);
-            rig.image.fill(0x42);
-            assert_eq!(rig.feed(&[0xFF, mid, high]), [0xFF; 256]);
-            rig.feed(&page_program(mid, high, 0x02));
-            assert_eq!(rig.unit.srd, 0x90);
-            assert!(rig.image.iter().all(|&byte| byte == 0x42));
+            assert!(!is_inside(mid, high));
         }
     }
 }
@@ -114,22 +124,20 @@ fn a_page_goes_to_its_own_place_and_comes_back() {
         (0xE0, 12_288),
         (0xFF, 20_224),
     ] {
-        let mut rig = Rig::open(0);
-        rig.image.fill(0xFF);
+        let mut rig = open_over(0xFF, 0);
         let data: Vec<u8> = (0..=255).collect();
         rig.feed(&[0x41, mid, 0x00]);
         rig.feed(&data);
         assert_eq!(rig.unit.srd, 0x80);
         assert_eq!(rig.image[offset..offset + 256], data);
-        assert!(rig.image[..offset].iter().all(|&byte| byte == 0xFF));
-        assert!(rig.image[offset + 256..].iter().all(|&byte| byte == 0xFF));
+        assert!(all_are(0xFF, &rig.image[..offset]));
+        assert!(all_are(0xFF, &rig.image[offset + 256..]));
         assert_eq!(rig.feed(&[0xFF, mid, 0x00]), data);
     }
 }
 
 #[test]
 fn block_erase_by_any_page_of_the_block() {
-    let offsets = [0..2048, 2048..4096, 4096..12_288, 12_288..20_480];
     for mid in 0..=0xFF {
         let block = match mid {
             0x20..=0x27 => Some(0),
@@ -139,21 +147,10 @@ fn block_erase_by_any_page_of_the_block() {
             _ => None,
         };
         for protection in [0, 1, 2, 4, 8, 15] {
-            let mut rig = Rig::open(protection);
-            rig.image.fill(0x00);
-            rig.feed(&[0x20, mid, 0x00, 0xD0]);
-            let erased = block.filter(|block| protection & (1 << block) == 0);
-            assert_eq!(rig.unit.srd, if erased.is_some() { 0x80 } else { 0xA0 });
-            for (number, cells) in offsets.iter().cloned().enumerate() {
-                let expected = if erased == Some(number) { 0xFF } else { 0x00 };
-                assert!(rig.image[cells].iter().all(|&byte| byte == expected));
-            }
+            let free_block = block.filter(|&block| !is_protected(protection, block));
+            assert_eq!(erased_block(protection, mid, 0x00), free_block);
         }
-        let mut rig = Rig::open(0);
-        rig.image.fill(0x00);
-        rig.feed(&[0x20, mid, 0x01, 0xD0]);
-        assert_eq!(rig.unit.srd, 0xA0);
-        assert!(rig.image.iter().all(|&byte| byte == 0x00));
+        assert_eq!(erased_block(0, mid, 0x01), None);
     }
 }
 

@@ -1,5 +1,6 @@
 //! Short made-up streams: laws that hold for every stream.
 
+use crate::support::{is_protected, woken, CELLS, ID_ADDRESSES, ID_PACKET};
 use reference::sessions::image;
 use reference::{byte, run, start, Phase, Unit};
 
@@ -17,9 +18,7 @@ impl Numbers {
     /// Bytes that the protocol cares for, more often than others.
     fn stream(&mut self) -> Vec<u8> {
         let pieces: [&[u8]; 18] = [
-            &[
-                0xF5, 0xDF, 0xFF, 0x00, 0x07, 0x31, 0x32, 0x33, 0x34, 0x35, 0x36, 0x37,
-            ],
+            &ID_PACKET,
             &[0xF5, 0xDF, 0xFF, 0x00, 0x00],
             &[0xFF, 0x20, 0x00],
             &[0xFF, 0xE1, 0x00],
@@ -38,8 +37,7 @@ impl Numbers {
             &[0x99],
             &[0x50, 0x70],
         ];
-        let mut stream = vec![0; 16];
-        stream.push(0xB0);
+        let mut stream = woken(&[]);
         for _ in 0..60 {
             if self.next(6) == 0 {
                 let n = self.next(300);
@@ -54,11 +52,8 @@ impl Numbers {
 
 fn protected_cells(protection: u8, image: &[u8]) -> Vec<u8> {
     let mut cells = Vec::new();
-    for (block, range) in [0..2048, 2048..4096, 4096..12_288, 12_288..20_480]
-        .into_iter()
-        .enumerate()
-    {
-        if protection & (1 << block) != 0 {
+    for (block, range) in CELLS.into_iter().enumerate() {
+        if is_protected(protection, block) {
             cells.extend_from_slice(&image[range]);
         }
     }
@@ -128,8 +123,8 @@ fn until_it_opens_the_image_stays_and_only_the_id_bytes_can_be_felt() {
         let mut one = image();
         // The same ID bytes, everything else another, still not blank.
         let mut other: Vec<u8> = (0..20_480).map(|_| numbers.next(256) as u8).collect();
-        for address in [0xFFDFusize, 0xFFE3, 0xFFEB, 0xFFEF, 0xFFF3, 0xFFF7, 0xFFFB] {
-            other[address - 0xB000] = one[address - 0xB000];
+        for offset in ID_ADDRESSES.map(|address| address as usize - 0xB000) {
+            other[offset] = one[offset];
         }
         other[20_476] = 0x00;
         let (one_before, other_before) = (one.clone(), other.clone());

@@ -1,5 +1,6 @@
 //! Every refusal of every call, their order, and that a refusal changes nothing.
 
+use crate::support::{all_are, barely_blank};
 use reference::sessions::image;
 use reference::{byte, run, start, Answer, Phase, Unit};
 
@@ -103,8 +104,7 @@ fn blank_looks_at_three_bytes() {
         image[offset] = 0xFE;
         assert!(!start(&image, 0).1.blank);
     }
-    let mut image = vec![0x00; 20_480];
-    image[20_476..=20_478].fill(0xFF);
+    let image = barely_blank();
     assert_eq!(image[20_479], 0x00);
     assert!(start(&image, 0).1.blank);
 }
@@ -177,15 +177,14 @@ fn after_a_refusal_the_unit_goes_on_as_if_it_had_not_been() {
 
 #[test]
 fn the_reply_fills_the_front_and_the_rest_keeps_its_bytes() {
-    let mut area = [0xEE; 300];
-    let answer = byte(&mut awake(), &mut image(), &mut area, 0xFB);
-    assert_eq!(answer.reply_len, 8);
-    assert_eq!(area[..8], *b"VER.2.00");
-    assert_eq!(area[8..], [0xEE; 292]);
-    let mut area = [0xEE; 300];
-    let answer = byte(&mut awake(), &mut image(), &mut area, 0x00);
-    assert_eq!((answer.taken, answer.reply_len), (1, 0));
-    assert_eq!(area, [0xEE; 300]);
+    for (b, expected) in [(0xFB, &b"VER.2.00"[..]), (0x00, &[])] {
+        let mut area = [0xEE; 300];
+        let answer = byte(&mut awake(), &mut image(), &mut area, b);
+        assert_eq!((answer.taken, answer.reply_len), (1, expected.len()));
+        let (reply, rest) = area.split_at(expected.len());
+        assert_eq!(reply, expected);
+        assert!(all_are(0xEE, rest));
+    }
 }
 
 #[test]

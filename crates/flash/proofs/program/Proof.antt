@@ -21,7 +21,7 @@ use Rattle.flash.proofs.program.Statement.{statement}
 use Rattle.flash.proofs.program.Tie as tie
 
 may : (c : tie.After-known-told) → let a = c .before .before .before .before .before .before .before .before .before .args in permitted part (a .protection) (a .address) (now (a .new)) ≡ true
-may c = sym (c .before .before .before .before .before .is-permitted .ensures _ refl) ∙ not-false _ (c .before .before .before .before .if2 .left)
+may c = sym (c .before .before .before .before .before .is-permitted .ensures) ∙ not-false _ (c .before .before .before .before .if2 .left)
 
 place : (c : tie.After-known-told) → find part (c .before .before .before .before .before .before .before .before .before .args .address) ≡ Inside (c .before .place .given .0 .0) (c .before .place .given .0 .1 .0)
 place c = sym (c .before .before .before .block-of .ensures) ∙ c .before .place .given .1
@@ -41,7 +41,7 @@ is-permitted-requires : tie.Need-is-permitted-requires
 is-permitted-requires c κs = search needs
 
 returns-2 : tie.Need-returns-2
-returns-2 c = sym (program-refused part _ _ _ (now (c .before .before .before .before .before .args .new)) (sym (c .before .is-permitted .ensures _ refl) ∙ not-true _ (c .if2 .taken)))
+returns-2 c = sym (program-refused part _ _ _ (now (c .before .before .before .before .before .args .new)) (sym (c .before .is-permitted .ensures) ∙ not-true _ (c .if2 .taken)))
 
 block-of-requires : tie.Need-block-of-requires
 block-of-requires c κs = search needs
@@ -85,7 +85,7 @@ returns-3 c =
 returns-4 : tie.Need-returns-4
 returns-4 c =
     let a = c .before .before .before .before .before .before .before .before .args in
-    let w = permitted-inside part _ _ (now (a .new)) (sym (c .before .before .before .before .is-permitted .ensures _ refl) ∙ not-false _ (c .before .before .before .if2 .left)) in
+    let w = permitted-inside part _ _ (now (a .new)) (sym (c .before .before .before .before .is-permitted .ensures) ∙ not-false _ (c .before .before .before .if2 .left)) in
     absurd (not-outside (w .2) (sym (c .before .before .block-of .ensures) ∙ c .enum-told .given .1))
 
 pub program-spec : {M : Type 1} → statement M

@@ -10,7 +10,7 @@ use Rattle.unit.specs.Phases.{need}
 use Rattle.unit.specs.Model.{whole}
 use Rattle.unit.specs.Phases.Kind.{id-check}
 use Rattle.protocol.specs.Endings.{finished}
-use Rattle.port.proofs.PacketLaws.{collects-sized, finishes-sized, checked}
+use Rattle.port.proofs.PacketLaws.{told, collects-sized, finishes-sized, checked}
 use borrow.Author.Needs.{needs}
 use Rattle.port.proofs.packets.id_check.Statement.{statement}
 use Rattle.port.proofs.packets.id_check.Tie as tie
@@ -34,7 +34,7 @@ returns : tie.Need-returns
 unfolding need
 returns c =
     let a = c .before .before .before .before .before .before .before .args in
-    let h = sym (c .before .before .goes-on .ensures (set (now (a .collected)) (a .n) (a .b)) (ap (λ (l : List ℕ). getD l 3 0) (sym (c .before .before .before .before .store .ensures)))) ∙ c .before .if1 .taken in
+    let h = told (a .n) (set (now (a .collected)) (a .n) (a .b)) _ _ _ (c .before .before .before .before .store .ensures) (c .before .before .goes-on .ensures) (c .before .if1 .taken) in
     rw (c .at .ensures, c .before .before .before .before .store .ensures, add-one)
     (sym (collects-sized (a .s) (a .settings) (now (a .collected)) (now (a .image)) (a .n) (a .b) (omega arith) id-check (λ xs. refl) (c .before .before .before .before .before .before .before .pre .2) h))
 
@@ -52,7 +52,7 @@ unfolding need
 returns-2 c =
     let a = c .before .before .before .before .before .before .before .before .before .before .before .before .args in
     let stored = c .before .before .before .before .before .before .before .before .before .store .ensures in
-    let h = sym (c .before .before .before .before .before .before .before .goes-on .ensures (set (now (a .collected)) (a .n) (a .b)) (ap (λ (l : List ℕ). getD l 3 0) (sym stored))) ∙ c .before .before .before .before .before .before .if1 .left in
+    let h = told (a .n) (set (now (a .collected)) (a .n) (a .b)) _ _ _ stored (c .before .before .before .before .before .before .before .goes-on .ensures) (c .before .before .before .before .before .before .if1 .left) in
     rw (c .at-command .ensures, c .before .clear .ensures)
     (sym (checked (a .s) (a .settings) (now (a .collected)) (now (a .image)) _ _ (c .before .before .before .check-packet .ensures))
     ∙ (ap (λ (l : List ℕ). finished id-check (whole (a .s) (a .settings) (now (a .collected))) (now (a .image)) (take (4 + getD l 3 0) l)) stored

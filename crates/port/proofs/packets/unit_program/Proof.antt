@@ -10,7 +10,7 @@ use Rattle.unit.specs.Phases.{need}
 use Rattle.unit.specs.Model.{whole}
 use Rattle.unit.specs.Phases.Kind.{unit-program}
 use Rattle.protocol.specs.Endings.{finished}
-use Rattle.port.proofs.PacketLaws.{collects-sized, finishes-sized}
+use Rattle.port.proofs.PacketLaws.{told, collects-sized, finishes-sized}
 use borrow.Author.Needs.{needs}
 use Rattle.port.proofs.packets.unit_program.Statement.{statement}
 use Rattle.port.proofs.packets.unit_program.Tie as tie
@@ -34,7 +34,7 @@ returns : tie.Need-returns
 unfolding need
 returns c =
     let a = c .before .before .before .before .before .before .before .args in
-    let h = sym (c .before .before .goes-on .ensures (set (now (a .collected)) (a .n) (a .b)) (ap (λ (l : List ℕ). getD l 3 0) (sym (c .before .before .before .before .store .ensures)))) ∙ c .before .if1 .taken in
+    let h = told (a .n) (set (now (a .collected)) (a .n) (a .b)) _ _ _ (c .before .before .before .before .store .ensures) (c .before .before .goes-on .ensures) (c .before .if1 .taken) in
     rw (c .at .ensures, c .before .before .before .before .store .ensures, add-one)
     (sym (collects-sized (a .s) (a .settings) (now (a .collected)) (now (a .image)) (a .n) (a .b) (omega arith) unit-program (λ xs. refl) (c .before .before .before .before .before .before .before .pre .2) h))
 
@@ -55,7 +55,7 @@ unfolding need
 returns-2 c =
     let a = c .before .before .before .before .before .before .before .before .before .before .before .before .before .before .before .args in
     let stored = c .before .before .before .before .before .before .before .before .before .before .before .before .store .ensures in
-    let h = sym (c .before .before .before .before .before .before .before .before .before .before .goes-on .ensures (set (now (a .collected)) (a .n) (a .b)) (ap (λ (l : List ℕ). getD l 3 0) (sym stored))) ∙ c .before .before .before .before .before .before .before .before .before .if1 .left in
+    let h = told (a .n) (set (now (a .collected)) (a .n) (a .b)) _ _ _ stored (c .before .before .before .before .before .before .before .before .before .before .goes-on .ensures) (c .before .before .before .before .before .before .before .before .before .if1 .left) in
     rw (c .at-command .ensures, c .before .clear .ensures)
     (c .before .before .before .before .before .program-unit .ensures (now (a .collected))
     ∙ (ap (λ (l : List ℕ). finished unit-program (whole (a .s) (a .settings) (now (a .collected))) (now (a .image)) (take (4 + getD l 3 0) l)) stored
