@@ -1,5 +1,5 @@
 -- Each case of a program and of an erase at its last byte, as the outcome over the parts of a unit, and the bank rule.
-use Prim.Native.Nat.{ℕ, _+_, _-_, _%_, _<_, _≤_}
+use Prim.Native.Nat.{ℕ, _+_, _-_, _%_, _≤_}
 use native.Mathlib.Omega.{arith}
 use mathlib.Core.Bool.{Bool, true, false, cond, not, _&&_, false≢true}
 use mathlib.Core.Path.{_≡_, refl, ap, sym, _∙_}

@@ -1,9 +1,9 @@
 -- The front of an area: a turn of the loop that copies to it, where the loop ends, and a page as a reply there.
-use Prim.Native.Nat.{ℕ, zero, suc, _+_, _<_, _≤_, min}
+use Prim.Native.Nat.{ℕ, zero, suc, _+_, _<_, min}
 use native.Mathlib.Omega.{arith}
 use native.Mathlib.Numerals.{add-one}
 use mathlib.Core.Bool.{Bool, true, false}
-use mathlib.Core.Path.{_≡_, refl, ap, sym, _∙_}
+use mathlib.Core.Path.{_≡_, refl, ap, sym}
 use mathlib.Core.List.{List, [], _∷_, _++_}
 use lib.ListN.{length, getD, set, take, drop, replicate, drop-of-length-le}
 use lib.Seq.{take-all}

@@ -7,7 +7,6 @@ use lib.ListN.{length, take, drop}
 use lib.Dec.{eqb}
 use Rattle.flash.specs.Blocks.{part}
 use Rattle.flash.specs.Image.{written, pagePart, eraseBlock, eraseAll}
-use Rattle.unit.specs.declared.Unit.{Unit as Port}
 use Rattle.unit.specs.declared.Registers.{Registers}
 use Rattle.unit.specs.declared.Settings.{Settings}
 use Rattle.unit.specs.declared.State.{State}

@@ -1,5 +1,5 @@
 -- The bridge from histories to the step: every clause is an equation, so each call of a history is one that the specification computes, and the history's trace is the run of the bytes that were taken.
-use Prim.Native.Nat.{ℕ, zero, suc, _+_, _≤_}
+use Prim.Native.Nat.{ℕ, zero, suc, _≤_}
 use mathlib.Core.Path.{_≡_, refl, ap, ap₂, sym, _∙_, subst⁻¹}
 use mathlib.Core.List.{List, [], _∷_, _++_}
 use lib.ListN.{length, take}

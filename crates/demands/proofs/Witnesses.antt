@@ -1,5 +1,5 @@
 -- The premises can be met: a history with a refused call in between, in which a permitted packet is carried out, computed on the image of the sessions; and a start's numbers.
-use Prim.Native.Nat.{ℕ, _+_, _-_, _<_}
+use Prim.Native.Nat.{ℕ, _+_, _-_}
 use native.Mathlib.Omega.{arith}
 use mathlib.Core.Bool.{Bool, true, _&&_}
 use mathlib.Core.Path.{_≡_, refl, ap, subst⁻¹}

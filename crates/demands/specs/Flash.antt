@@ -1,5 +1,5 @@
 -- Document 01, "The flash", written out for the demands: places of the image, blocks, protection bits, the ID bytes, blankness. Nothing here cites the specification.
-use Prim.Native.Nat.{ℕ, _+_, _-_, _/_, _%_, _^_, _≤_, _<_}
+use Prim.Native.Nat.{ℕ, _+_, _-_, _/_, _%_, _^_, _≤_}
 use mathlib.Core.Path.{_≡_}
 use mathlib.Core.List.{List, [], _∷_}
 use lib.ListN.{getD}

@@ -1,6 +1,6 @@
 -- A history: a start, then any calls, byte calls and run calls mixed, each given the unit and image that the last one left. Every call is one that meets the port's own clause.
 -- Its trace has an entry for each byte that was taken.
-use Prim.Native.Nat.{ℕ, zero, suc, _+_, _≤_, _<_}
+use Prim.Native.Nat.{ℕ, zero, suc, _≤_}
 use mathlib.Core.Path.{_≡_}
 use mathlib.Core.List.{List, [], _∷_, _++_}
 use lib.ListN.{length, getD, take, drop}

@@ -1,14 +1,14 @@
 -- Document 01, "The flash" and the programs' and erases' rules: what the lent image holds, and what programming and erasing leave of it.
 use Prim.Native.Nat.{ℕ, zero, suc, _+_}
-use mathlib.Core.Bool.{Bool, true, false, cond, not, _&&_}
+use mathlib.Core.Bool.{Bool, true, false, cond, _&&_}
 use mathlib.Core.List.{List, [], _∷_, _++_, map}
 use lib.ListN.{length, getD, take, drop, replicate}
-use lib.Dec.{ltb, eqb}
+use lib.Dec.{ltb}
 use lib.Bits.{bitAnd}
 use Rattle.flash.specs.declared.Found.{Found}
 use Rattle.flash.specs.declared.Found.the-variants.{Inside, Outside}
 use Rattle.flash.specs.Lists.{same}
-use Rattle.flash.specs.Blocks.{Block, imageSize, sized, find, blockOf, placeOf, blockFrom, blockSize, guarded, free, pageAddress}
+use Rattle.flash.specs.Blocks.{Block, sized, find, blockOf, placeOf, blockFrom, blockSize, guarded, free, pageAddress}
 
 -- the byte at an address of the part
 unfoldable pub byteAt : List Block → List ℕ → ℕ → ℕ

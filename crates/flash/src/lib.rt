@@ -1,7 +1,6 @@
 // The flash of document 01 over an image that the caller lends: the block of an address, a page, programs, erases, the ID bytes and blankness.
 ghost use mathlib.Core.Path.{_≡_};
-ghost use mathlib.Core.List.{List};
-ghost use Prim.Native.Nat.{ℕ, _+_, _≤_, _<_};
+ghost use Prim.Native.Nat.{_+_, _≤_, _<_};
 ghost use lib.ListN.{length};
 ghost use Rattle.flash.specs.Lists.{same};
 ghost use Rattle.flash.specs.Blocks.{block, part, holds, find, guarded, free, blockFrom, blockSize};

@@ -1,14 +1,13 @@
 -- A call that is not refused hands its inner functions a unit in range, an image of the right size and room for any reply.
 use Prim.Native.Nat.{ℕ, zero, suc, _<_}
-use mathlib.Core.Path.{_≡_, refl, sym, _∙_}
+use mathlib.Core.Path.{_≡_, sym, _∙_}
 use mathlib.Core.List.{List, [], _∷_}
 use lib.ListN.{length, getD}
 use Rattle.flash.specs.Lists.{Bytes}
 use Rattle.unit.specs.declared.Unit.{Unit as Port}
-use Rattle.unit.proofs.Ranged.{Sound, sound, in-range}
+use Rattle.unit.proofs.Ranged.{Sound, sound}
 use Rattle.unit.specs.declared.Inputs.{Inputs}
 use Rattle.unit.specs.Model.{fresh, idle}
-use Rattle.protocol.specs.declared.Started.{Started}
 use Rattle.protocol.specs.Reasons.{StartReason}
 use Rattle.protocol.specs.Calls.{startCall, startRefusal, refusal}
 use Rattle.protocol.proofs.Refusals.{start-exactly, start-done, start-refused, not-refused}

@@ -5,7 +5,7 @@ use native.Mathlib.Nat.{sub-zero, zero-sub, suc-sub-suc}
 use mathlib.Core.Bool.{Bool, true, false, _||_}
 use mathlib.Core.Path.{_≡_, refl, ap, sym, _∙_}
 use mathlib.Core.List.{List, [], _∷_, _++_}
-use lib.ListN.{length, getD, take, drop, set, length-set}
+use lib.ListN.{length, getD, take, drop, set}
 use lib.Seq.{take-nil, take-suc-set, getD-take, length-take-le}
 use lib.Dec.{eqb, ltb}
 use borrow.Author.Tests.{eqb-true, eqb-false, ltb-false, ltb-true, lt-ltb}
@@ -19,7 +19,7 @@ use Rattle.unit.specs.Phases.{Kind, inside, need}
 use Rattle.unit.specs.Phases.Kind.{page-read, page-program, unit-program, block-erase, erase-all, id-check}
 use Rattle.unit.specs.Model.{whole, state, commanded, withSrd1, noBytes, longer, ended}
 use Rattle.unit.proofs.Lengths.{need-next}
-use Rattle.protocol.specs.Outcome.{Outcome, says, quiet}
+use Rattle.protocol.specs.Outcome.{says, quiet}
 use Rattle.protocol.specs.Endings.{pageReply, reaching, bankEnd, programmedBy, programs, erases, judged, finished}
 use Rattle.protocol.specs.Step.{body, completes, inPacket}
 use Rattle.protocol.proofs.Steps.{packet-last, packet-more, body-stored}

@@ -1,6 +1,6 @@
 -- A run's loop: before each byte the walk from here, joined to what has been said and taken, is the walk from the start; a byte more keeps that, and where the loop stops the walk from here is empty.
 use mathlib.Core.Path.{_≡_, refl, ap, _∙_, sym}
-use mathlib.Core.List.{List, [], _∷_, _++_, append-assoc, append-nil}
+use mathlib.Core.List.{List, [], _++_, append-assoc, append-nil}
 use Prim.Native.Nat.{ℕ, suc, _+_, _-_, _<_, _≤_}
 use native.Mathlib.Nat.{add-zero, zero-add, sub-zero}
 use native.Mathlib.Numerals.{add-one}

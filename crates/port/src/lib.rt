@@ -13,12 +13,11 @@ mod collect;
 mod packets;
 
 ghost use mathlib.Core.Path.{_≡_};
-ghost use mathlib.Core.Bool.{true};
-ghost use mathlib.Core.List.{List, _++_};
-ghost use Prim.Native.Nat.{ℕ, _≤_};
+ghost use mathlib.Core.List.{_++_};
+ghost use Prim.Native.Nat.{_≤_};
 ghost use lib.ListN.{length, take, drop};
 ghost use Rattle.unit.specs.Model.{whole};
-ghost use Rattle.protocol.specs.Step.{inPacket, step};
+ghost use Rattle.protocol.specs.Step.{step};
 ghost use Rattle.protocol.specs.Calls.{StartEnsures, ByteEnsures, RunEnsures, refusal, refusing, answered, walked};
 ghost use Rattle.port.specs.Parts.{took, went, landed, Fine};
 

@@ -1,6 +1,6 @@
 -- Each session's replies, registers and image are computed from the definitions, and are those of its row.
 use mathlib.Core.Path.{_≡_, refl}
-use mathlib.Core.List.{List, map}
+use mathlib.Core.List.{map}
 use Rattle.flash.specs.Blocks.{sized, holds, find, blockOf, placeOf, guarded, free}
 use Rattle.flash.specs.Image.{byteAt, storedId, isBlank, partAt, pagePart, programmed, erased, permitted, burnt, program, wiped, eraseBlock, wipedFree, eraseAll}
 use Rattle.unit.specs.Phases.{commandOf, need}
@@ -10,7 +10,7 @@ use Rattle.protocol.specs.Commands.{commands, meaning, needsOpen, versio
 use Rattle.protocol.specs.Endings.{pageReply, bankEnd, programmedBy, programs, erases, rightId, isRight, judged, finished}
 use Rattle.protocol.specs.Step.{wakes, asleep, body, completes, inPacket, stepAt, step}
 use Rattle.protocol.specs.Calls.{startRefusal, startCall, refusal, byteCall}
-use Rattle.protocol.specs.Playing.{Row, play, played, wanted}
+use Rattle.protocol.specs.Playing.{play, played, wanted}
 use Rattle.protocol.specs.Sessions.{image, starred, others}
 
 pub sessions-hold : map played starred ≡ map wanted starred

@@ -1,7 +1,7 @@
 -- Document 01, "Packets, once awake": what a packet of several bytes does at its last byte. xs is all that followed the command.
 use Prim.Native.Nat.{ℕ, _+_, _%_}
 use mathlib.Core.Bool.{Bool, true, false, cond, not, _||_}
-use mathlib.Core.List.{List, [], _∷_, _++_}
+use mathlib.Core.List.{List, [], _∷_}
 use lib.ListN.{length, getD, drop, replicate}
 use lib.Dec.{leb, eqb}
 use Rattle.flash.specs.Lists.{same}

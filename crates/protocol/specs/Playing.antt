@@ -1,15 +1,13 @@
 -- How a session of document 01's table is run: through the calls, from the record that it describes and from a fresh unit.
 use Prim.Native.Nat.{ℕ, suc, _+_}
-use mathlib.Core.Bool.{Bool, true, false}
+use mathlib.Core.Bool.{false}
 use mathlib.Core.List.{List, [], _∷_, _++_}
-use lib.ListN.{length, replicate, take, drop}
+use lib.ListN.{length, replicate, take}
 use Rattle.unit.specs.declared.Unit.{Unit as Port}
-use Rattle.unit.specs.declared.Registers.{Registers}
-use Rattle.unit.specs.declared.Inputs.{Inputs}
 use Rattle.unit.specs.declared.Phase.the-variants.{Awake}
 use Rattle.unit.specs.declared.Place.the-variants.{Command}
 use Rattle.unit.specs.Model.{begun, inputs, withSrd1, phased, ended}
-use Rattle.protocol.specs.Calls.{Left, startCall, byteCall}
+use Rattle.protocol.specs.Calls.{startCall, byteCall}
 
 -- a byte with a reply: its number from 1, and the reply
 pub record Reply : Type 0 where

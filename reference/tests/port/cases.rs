@@ -1,8 +1,39 @@
 //! The case format, with cases built by hand here.
 
+use crate::support::{framed, in_packet};
 use reference::cases::{replay, Stop};
 use reference::record::{decode, encode, Record, RECORD_LEN};
-use reference::{Command, Phase, Unit};
+use reference::{Command, Unit};
+
+/// The eight bytes of a record before the collected ones.
+type Head = [u8; 8];
+
+/// Heads of units that are out of range.
+const OUT_OF_RANGE: [Head; 13] = [
+    [0x00, 17, 0, 0x80, 0x00, 0, 0, 0],
+    [0x00, 255, 0, 0x00, 0xFF, 1, 255, 255],
+    [0x01, 0, 0, 0x80, 0x00, 1, 0, 0],
+    [0x01, 0, 0, 0x80, 0x00, 0, 16, 0],
+    [0x01, 0, 0, 0x81, 0x08, 1, 16, 5],
+    [0xFF, 0, 0, 0x80, 0x04, 0, 0, 0],
+    [0xFF, 2, 0, 0x80, 0x0C, 0, 0, 0],
+    [0xFF, 0xFF, 0xFF, 0x7F, 0x00, 0, 0, 0],
+    [0x41, 0x02, 0x01, 0x80, 0x0C, 0, 0, 0],
+    [0x49, 3, 0, 0x80, 0x04, 0, 0, 0],
+    [0x49, 0xFF, 0xFF, 0x80, 0x0C, 0, 0, 0],
+    [0x20, 3, 0, 0x80, 0x0C, 0, 0, 0],
+    [0xA7, 1, 0, 0x80, 0x0C, 0, 0, 0],
+];
+
+/// Heads that no unit has: an unknown tag, a count at a command, a blank byte over 1.
+const NO_UNIT: [Head; 6] = [
+    [0x02, 0, 0, 0x80, 0x00, 0, 0, 0],
+    [0x71, 0, 0, 0x80, 0x00, 0, 0, 0],
+    [0x01, 1, 0, 0x80, 0x00, 0, 0, 0],
+    [0x01, 0, 2, 0x80, 0x00, 0, 0, 0],
+    [0x00, 0, 0, 0x80, 0x00, 2, 0, 0],
+    [0x01, 0, 0, 0x33, 0x44, 2, 0, 0],
+];
 
 /// A case's body, put together field by field.
 struct Case {
@@ -44,6 +75,12 @@ impl Case {
         self
     }
 
+    fn image(mut self, len: u16, fill: u8) -> Case {
+        self.image_len = len;
+        self.fill = fill;
+        self
+    }
+
     fn patch(mut self, offset: u16, bytes: &[u8]) -> Case {
         self.patches.push((offset, bytes.to_vec()));
         self
@@ -76,10 +113,6 @@ impl Case {
     }
 }
 
-fn framed(body: &[u8]) -> Vec<u8> {
-    [&(body.len() as u32).to_le_bytes()[..], body].concat()
-}
-
 fn answer(batch: &[u8]) -> Vec<u8> {
     let mut output = Vec::new();
     replay(&mut &batch[..], &mut output).expect("a well-formed batch");
@@ -95,7 +128,7 @@ fn stopped(batch: &[u8]) -> (Vec<u8>, u64) {
     }
 }
 
-fn record(head: [u8; 8], collected: u8) -> Record {
+fn record(head: Head, collected: u8) -> Record {
     let mut record = [collected; RECORD_LEN];
     record[..8].copy_from_slice(&head);
     record
@@ -110,10 +143,7 @@ fn idle() -> Record {
 fn records() {
     assert_eq!(encode(&Unit::idle()), idle());
     let mut unit = Unit {
-        phase: Phase::InPacket {
-            command: Command::PageProgram,
-            received: 0x0101,
-        },
+        phase: in_packet(Command::PageProgram, 0x0101),
         srd: 0xB0,
         srd1: 0x0C,
         blank: true,
@@ -128,23 +158,15 @@ fn records() {
     expected[266] = 0xBB;
     assert_eq!(encode(&unit), expected);
     assert_eq!(decode(&expected), Some(unit));
-    // Out of range is not out of the format: such a record comes back bit for bit.
-    for head in [
-        [0x00, 255, 0, 0x00, 0xFF, 1, 255, 255],
-        [0x01, 0, 0, 0x81, 0x08, 1, 16, 5],
-        [0xFF, 0xFF, 0xFF, 0x7F, 0x00, 0, 0, 0],
-        [0xF5, 4, 0, 0x80, 0x04, 0, 0, 0],
-        [0x49, 3, 0, 0x80, 0x04, 0, 0, 0],
-        [0x20, 3, 0, 0x80, 0x0C, 0, 0, 0],
-        [0xA7, 1, 0, 0x80, 0x0C, 0, 0, 0],
-    ] {
+    // Out of range is not out of the format: such a record too comes back bit for bit.
+    let in_range = [0xF5, 4, 0, 0x80, 0x04, 0, 0, 0];
+    for head in OUT_OF_RANGE.into_iter().chain([in_range]) {
         let given = record(head, 0x66);
         assert_eq!(encode(&decode(&given).unwrap()), given);
     }
-    // No unit has these.
-    assert_eq!(decode(&record([0x02, 0, 0, 0x80, 0, 0, 0, 0], 0)), None);
-    assert_eq!(decode(&record([0x01, 1, 0, 0x80, 0, 0, 0, 0], 0)), None);
-    assert_eq!(decode(&record([0x00, 0, 0, 0x80, 0, 2, 0, 0], 0)), None);
+    for head in NO_UNIT {
+        assert_eq!(decode(&record(head, 0)), None);
+    }
 }
 
 #[test]
@@ -162,31 +184,16 @@ fn a_start_alone() {
 
 #[test]
 fn refused_starts_go_on_with_the_idle_unit() {
-    let output = answer(&Case::started(16).group(0, 256, 7, &[0x00]).batch());
-    let after = record([0x00, 1, 0, 0x80, 0x00, 0, 0, 0], 0);
-    let expected = [
-        &[2][..],
-        &idle(),
-        &[0, 1, 0, 0, 0, 0x80, 0x00],
-        &[7; 256],
-        &after,
-        &[0xFF; 20_480],
-    ]
-    .concat();
-    assert_eq!(output, expected);
-
-    let mut case = Case::started(16).group(0, 256, 7, &[0x00]);
-    case.image_len = 3;
-    let expected = [
-        &[1][..],
-        &idle(),
-        &[1, 0, 0, 0, 0, 0x80, 0x00],
-        &[7; 256],
-        &idle(),
-        &[0xFF; 3],
-    ]
-    .concat();
-    assert_eq!(answer(&case.batch()), expected);
+    let one_zero_more = record([0x00, 1, 0, 0x80, 0x00, 0, 0, 0], 0);
+    for (image_len, refusal, call, after) in [
+        (20_480, 2, [0, 1, 0, 0, 0, 0x80, 0x00], one_zero_more),
+        (3, 1, [1, 0, 0, 0, 0, 0x80, 0x00], idle()),
+    ] {
+        let case = Case::started(16).group(0, 256, 7, &[0x00]);
+        let image = vec![0xFF; usize::from(image_len)];
+        let expected = [&[refusal][..], &idle(), &call, &[7; 256], &after, &image].concat();
+        assert_eq!(answer(&case.image(image_len, 0xFF).batch()), expected);
+    }
 }
 
 #[test]
@@ -223,9 +230,11 @@ fn byte_calls_have_an_area_each_and_a_run_has_one() {
 #[test]
 fn with_trace_the_image_follows_every_call() {
     let unit = record([0xA7, 0, 0, 0x80, 0x0C, 0, 1, 0], 0);
-    let mut case = Case::given(unit).group(0, 256, 0, &[0xD0, 0x00]);
-    case.trace = 1;
-    case.fill = 0x00;
+    let case = Case {
+        trace: 1,
+        fill: 0x00,
+        ..Case::given(unit).group(0, 256, 0, &[0xD0, 0x00])
+    };
     let mut image = [0xFF; 20_480];
     image[..2048].fill(0x00);
     let call = [&[0, 1, 0, 0, 0, 0x80, 0x0C][..], &[0; 256], &image].concat();
@@ -241,50 +250,35 @@ fn with_trace_the_image_follows_every_call() {
 
 #[test]
 fn patches_in_order_and_past_the_end() {
-    let mut case = Case::given(idle())
+    let case = Case::given(idle())
+        .image(8, 0x20)
         .patch(1, &[1, 2, 3])
         .patch(2, &[9])
         .patch(6, &[7, 7, 7])
         .patch(8, &[5])
         .patch(65_535, &[5])
         .patch(0, &[]);
-    case.image_len = 8;
-    case.fill = 0x20;
     let image = [0x20, 1, 9, 3, 0x20, 0x20, 7, 7];
     assert_eq!(answer(&case.batch()), [&idle()[..], &image].concat());
 }
 
 #[test]
 fn a_unit_out_of_range_is_handed_back_as_given() {
-    for head in [
-        [0x00, 17, 0, 0x80, 0x00, 0, 0, 0],
-        [0x01, 0, 0, 0x80, 0x00, 1, 0, 0],
-        [0xFF, 2, 0, 0x80, 0x0C, 0, 0, 0],
-        [0xFF, 0, 0, 0x80, 0x04, 0, 0, 0],
-        [0x41, 0x02, 0x01, 0x80, 0x0C, 0, 0, 0],
-        [0x49, 0xFF, 0xFF, 0x80, 0x0C, 0, 0, 0],
-        [0x01, 0, 0, 0x80, 0x00, 0, 16, 0],
-        // No unit has these at all: out of range too.
-        [0x71, 0, 0, 0x80, 0x00, 0, 0, 0],
-        [0x01, 0, 2, 0x80, 0x00, 0, 0, 0],
-        [0x01, 0, 0, 0x33, 0x44, 2, 0, 0],
-    ] {
+    // What no unit has is out of range too.
+    for head in OUT_OF_RANGE.into_iter().chain(NO_UNIT) {
         let given = record(head, 0x42);
-        let status = [head[3], head[4]];
+        let refused = |refusal: u8, area: &[u8]| {
+            let call = [refusal, 0, 0, 0, 0, head[3], head[4]];
+            [&call[..], area].concat()
+        };
         let case = Case::given(given)
             .group(0, 256, 1, &[0x70])
             .group(1, 300, 2, &[0x70, 0x70])
             .group(1, 255, 3, &[]);
         let expected = [
-            &[4, 0, 0, 0, 0][..],
-            &status,
-            &[1; 256],
-            &[4, 0, 0, 0, 0],
-            &status,
-            &[2; 300],
-            &[3, 0, 0, 0, 0],
-            &status,
-            &[3; 255],
+            &refused(4, &[1; 256])[..],
+            &refused(4, &[2; 300]),
+            &refused(3, &[3; 255]),
             &given,
             &[0xFF; 20_480],
         ]
@@ -310,9 +304,7 @@ fn the_largest_run_and_area() {
 #[test]
 fn cases_follow_each_other() {
     let one = Case::started(0).group(0, 256, 0, &[0x00]).batch();
-    let mut small = Case::given(idle());
-    small.image_len = 0;
-    let two = small.batch();
+    let two = Case::given(idle()).image(0, 0xFF).batch();
     let both = [&one[..], &two, &one].concat();
     let expected = [answer(&one), answer(&two), answer(&one)].concat();
     assert_eq!(answer(&both), expected);
@@ -342,11 +334,13 @@ fn a_case_that_is_not_well_formed_ends_the_replay() {
         wrong[place] = value;
         bad_ends.push(with(&framed(&wrong)));
     }
-    bad_ends.push(with(&Case::given(idle()).group(2, 256, 0, &[]).batch()));
-    bad_ends.push(with(&Case::given(idle()).group(0, 16_385, 0, &[]).batch()));
-    let mut large = Case::given(idle());
-    large.image_len = 32_769;
-    bad_ends.push(with(&large.batch()));
+    for wrong in [
+        Case::given(idle()).group(2, 256, 0, &[]),
+        Case::given(idle()).group(0, 16_385, 0, &[]),
+        Case::given(idle()).image(32_769, 0xFF),
+    ] {
+        bad_ends.push(with(&wrong.batch()));
+    }
     for batch in bad_ends {
         assert_eq!(stopped(&batch), (answer(&before), 2));
     }

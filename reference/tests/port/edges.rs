@@ -23,11 +23,19 @@ fn permits(protection: u8, address: u32, len: usize) -> bool {
     rig.unit.srd == 0x80
 }
 
-/// With nothing protected, a program of this length is permitted or not at all these addresses.
+/// With nothing protected, a program of this length is permitted at each of these addresses.
 #[track_caller]
-fn all_permit(expected: bool, len: usize, addresses: &[u32]) {
+fn assert_permitted(len: usize, addresses: &[u32]) {
     for &address in addresses {
-        assert_eq!(permits(0, address, len), expected, "{address:05X}");
+        assert!(permits(0, address, len), "{address:05X}");
+    }
+}
+
+/// Not even with nothing protected is it permitted at any of these.
+#[track_caller]
+fn assert_forbidden(len: usize, addresses: &[u32]) {
+    for &address in addresses {
+        assert!(!permits(0, address, len), "{address:05X}");
     }
 }
 
@@ -63,18 +71,18 @@ fn erased_block(protection: u8, mid: u8, high: u8) -> Option<usize> {
 #[test]
 fn single_bytes_at_the_edges() {
     for (first, last) in BLOCKS {
-        all_permit(true, 1, &[first, last]);
+        assert_permitted(1, &[first, last]);
     }
     let outside = [
         0x00000, 0x01FFF, 0x03000, 0x0BFFF, 0x10000, 0x12000, 0x1C000, 0x1FFF0, 0xFFFFFF, 0xFFDF00,
     ];
-    all_permit(false, 1, &outside);
+    assert_forbidden(1, &outside);
 }
 
 #[test]
 fn two_bytes_over_the_edges() {
-    all_permit(false, 2, &[0x01FFF, 0x02FFF, 0x0BFFF, 0x0FFFF]);
-    all_permit(true, 2, &[0x027FF, 0x0DFFF, 0x0FFFE]);
+    assert_forbidden(2, &[0x01FFF, 0x02FFF, 0x0BFFF, 0x0FFFF]);
+    assert_permitted(2, &[0x027FF, 0x0DFFF, 0x0FFFE]);
 }
 
 #[test]
@@ -94,11 +102,11 @@ fn a_protected_neighbour_stops_the_whole_program() {
 
 #[test]
 fn the_end_of_the_bank_with_255_bytes() {
-    all_permit(true, 255, &[0x0FF01]);
-    all_permit(false, 255, &[0x0FF02]);
+    assert_permitted(255, &[0x0FF01]);
+    assert_forbidden(255, &[0x0FF02]);
     // A bank's end does not wrap to its beginning, nor the last address to the first.
-    all_permit(false, 255, &[0xFFFFFF]);
-    all_permit(false, 16, &[0xFF2000]);
+    assert_forbidden(255, &[0xFFFFFF]);
+    assert_forbidden(16, &[0xFF2000]);
 }
 
 #[test]

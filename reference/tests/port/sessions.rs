@@ -1,5 +1,6 @@
 //! The twelve sessions, typed a second time and more closely than in the library.
 
+use crate::support::{in_packet, open_over, status_after};
 use reference::sessions::{line, page_program, play, unit_program, Check, Rig, COUNT};
 use reference::{byte, run, start, Command, Phase, Unit};
 
@@ -16,35 +17,29 @@ fn session_1_right_id() {
 
 #[test]
 fn session_2_last_id_byte_wrong() {
-    let mut rig = Rig::closed(0);
-    rig.feed(&[0xF5, 0xDF, 0xFF, 0x00, 0x07]);
-    rig.feed(&[0x31, 0x32, 0x33, 0x34, 0x35, 0x36, 0x38]);
-    assert_eq!(rig.feed(&[0x70]), [0x80, 0x04]);
+    let packet = [
+        0xF5, 0xDF, 0xFF, 0x00, 0x07, 0x31, 0x32, 0x33, 0x34, 0x35, 0x36, 0x38,
+    ];
+    assert_eq!(status_after(&mut Rig::closed(0), &packet), [0x80, 0x04]);
 }
 
 #[test]
 fn session_3_wrong_address_or_size() {
-    let mut rig = Rig::closed(0);
-    rig.feed(&[0xF5, 0xDE, 0xFF, 0x00, 0x07]);
-    rig.feed(&[0x31, 0x32, 0x33, 0x34, 0x35, 0x36, 0x37]);
-    assert_eq!(rig.feed(&[0x70]), [0x80, 0x04]);
-    let mut rig = Rig::closed(0);
-    rig.feed(&[0xF5, 0xDF, 0xFF, 0x00, 0x06]);
-    rig.feed(&[0x31, 0x32, 0x33, 0x34, 0x35, 0x36]);
-    assert_eq!(rig.feed(&[0x70]), [0x80, 0x04]);
+    let packet = [
+        0xF5, 0xDE, 0xFF, 0x00, 0x07, 0x31, 0x32, 0x33, 0x34, 0x35, 0x36, 0x37,
+    ];
+    assert_eq!(status_after(&mut Rig::closed(0), &packet), [0x80, 0x04]);
+    let packet = [
+        0xF5, 0xDF, 0xFF, 0x00, 0x06, 0x31, 0x32, 0x33, 0x34, 0x35, 0x36,
+    ];
+    assert_eq!(status_after(&mut Rig::closed(0), &packet), [0x80, 0x04]);
 }
 
 #[test]
 fn session_4_size_0_ends_at_the_fifth_byte() {
     let mut rig = Rig::closed(0);
     rig.feed(&[0xF5, 0xDF, 0xFF, 0x00]);
-    assert_eq!(
-        rig.unit.phase,
-        Phase::InPacket {
-            command: Command::IdCheck,
-            received: 3
-        }
-    );
+    assert_eq!(rig.unit.phase, in_packet(Command::IdCheck, 3));
     assert_eq!(rig.unit.srd1, 0x00);
     rig.feed(&[0x00]);
     assert_eq!(rig.unit.phase, Phase::AtCommand);
@@ -71,16 +66,14 @@ fn session_6_waking() {
 
 #[test]
 fn session_7_erase_confirm() {
-    let mut rig = Rig::open(0);
-    let before = rig.image.clone();
-    assert_eq!(rig.unit.srd, 0x80);
-    assert_eq!(rig.feed(&[0x20, 0xC0, 0x00, 0xD1]), []);
-    assert_eq!(rig.feed(&[0x70]), [0xB0, 0x0C]);
-    assert_eq!(rig.image, before);
-    let mut rig = Rig::open(0);
-    assert_eq!(rig.feed(&[0x20, 0xC0, 0x00, 0xFF]), []);
-    assert_eq!(rig.feed(&[0x70]), [0x80, 0x0C]);
-    assert_eq!(rig.image, before);
+    for (confirm, srd) in [(0xD1, 0xB0), (0xFF, 0x80)] {
+        let mut rig = Rig::open(0);
+        let before = rig.image.clone();
+        assert_eq!(rig.unit.srd, 0x80);
+        let packet = [0x20, 0xC0, 0x00, confirm];
+        assert_eq!(status_after(&mut rig, &packet), [srd, 0x0C]);
+        assert_eq!(rig.image, before);
+    }
 }
 
 #[test]
@@ -95,42 +88,40 @@ fn session_8_protected_block() {
 fn session_9_bits_only_fall() {
     let mut rig = Rig::open(0);
     rig.set(0x02345, 0xF0);
-    rig.feed(&unit_program(0x02345, &[0x0F]));
+    let packet = unit_program(0x02345, &[0x0F]);
+    assert_eq!(status_after(&mut rig, &packet), [0x90, 0x0C]);
     assert_eq!(rig.at(0x02345), 0x00);
-    assert_eq!(rig.feed(&[0x70]), [0x90, 0x0C]);
     // The same by a page program: one byte of 256 does not hold.
     let mut rig = Rig::open(0);
     rig.set(0x02345, 0xF0);
-    rig.feed(&page_program(0x23, 0x00, 0x0F));
+    let packet = page_program(0x23, 0x00, 0x0F);
+    assert_eq!(status_after(&mut rig, &packet), [0x90, 0x0C]);
     assert_eq!(rig.at(0x02345), 0x00);
     assert_eq!(rig.at(0x02344), 0x0F);
     assert_eq!(rig.at(0x023FF), 0x0F);
-    assert_eq!(rig.feed(&[0x70]), [0x90, 0x0C]);
 }
 
 #[test]
 fn session_10_outside_page() {
-    let mut rig = Rig::open(0);
-    rig.image.fill(0x11);
-    let before = rig.image.clone();
+    let mut rig = open_over(0x11, 0);
     assert_eq!(rig.feed(&[0xFF, 0x30, 0x00]), [0xFF; 256]);
     assert_eq!(rig.unit.srd, 0x80);
-    rig.feed(&page_program(0x30, 0x00, 0xFF));
-    assert_eq!(rig.feed(&[0x70]), [0x90, 0x0C]);
-    assert_eq!(rig.image, before);
+    let packet = page_program(0x30, 0x00, 0xFF);
+    assert_eq!(status_after(&mut rig, &packet), [0x90, 0x0C]);
+    assert_eq!(rig.image, [0x11; 20_480]);
 }
 
 #[test]
 fn session_11_end_of_the_bank() {
     let mut rig = Rig::open(0);
-    rig.feed(&unit_program(0x0FFF0, &[0; 0x10]));
-    assert_eq!(rig.feed(&[0x70]), [0x80, 0x0C]);
+    let packet = unit_program(0x0FFF0, &[0; 0x10]);
+    assert_eq!(status_after(&mut rig, &packet), [0x80, 0x0C]);
     assert!((0x0FFF0..=0x0FFFF).all(|address| rig.at(address) == 0));
     assert_eq!(rig.at(0x0FFEF), 0x34);
     let mut rig = Rig::open(0);
     let before = rig.image.clone();
-    rig.feed(&unit_program(0x0FFF0, &[0; 0x11]));
-    assert_eq!(rig.feed(&[0x70]), [0x90, 0x0C]);
+    let packet = unit_program(0x0FFF0, &[0; 0x11]);
+    assert_eq!(status_after(&mut rig, &packet), [0x90, 0x0C]);
     assert_eq!(rig.image, before);
 }
 

@@ -1,7 +1,6 @@
 -- `live::grown` meets its contract: each answer is the one that the same tests choose in `capped`, and a number up to 255 leaves room for a digit.
 use native.Mathlib.Omega.{arith}
 use borrow.Author.Tests.{lt-ltb, le-ltb}
-use Prim.Native.Nat.{_+_, _*_}
 use Rattle.live.specs.Argument.{capped}
 use Rattle.live.proofs.grown.Statement.{statement}
 use Rattle.live.proofs.grown.Tie as tie

@@ -1,9 +1,9 @@
 -- `live::is_changed` meets its contract: the flag so far and what is left to compare say together whether the two are the same.
 use native.Mathlib.Omega.{arith}
 use mathlib.Core.Bool.{not, _&&_}
-use mathlib.Core.Path.{_≡_, refl, ap, _∙_}
+use mathlib.Core.Path.{_≡_, refl}
 use mathlib.Core.Logic.{⊎-elim}
-use Prim.Native.Nat.{_+_, _≤_, _-_}
+use Prim.Native.Nat.{_≤_, _-_}
 use lib.ListN.{length, drop}
 use denote.Ref.{now}
 use Rattle.flash.specs.Lists.{same}

@@ -1,10 +1,10 @@
 -- `live::protection` meets its contract: what the rest of the text says after the digits so far is what the whole says, and the number is at most 256.
 use native.Mathlib.Omega.{arith}
-use mathlib.Core.Path.{_≡_, refl, ap, sym, _∙_}
+use mathlib.Core.Path.{_≡_, sym, _∙_}
 use Prim.Native.Nat.{_≤_, _-_}
 use lib.ListN.{length, drop}
 use denote.Ref.{now}
-use Rattle.live.specs.Argument.{givenFrom, given, capped}
+use Rattle.live.specs.Argument.{givenFrom, given}
 use Rattle.live.proofs.Texts.{told-over, told-within, digit-turn, low-stops, high-stops, text-begins, text-empty, text-ends}
 use Rattle.live.proofs.protection.Statement.{statement}
 use Rattle.live.proofs.protection.Tie as tie

@@ -1,5 +1,5 @@
 -- `port::run` meets its contract: it refuses with the number that was found, and else is the walk over the unit's parts, put together again.
-use mathlib.Core.Path.{refl, ap, sym, _∙_}
+use mathlib.Core.Path.{ap, sym, _∙_}
 use Prim.Native.Nat.{ℕ}
 use lib.ListN.{length, getD}
 use mir.Val.{Fits}

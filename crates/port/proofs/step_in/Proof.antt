@@ -1,6 +1,5 @@
 -- `port::step_in` meets its contract: each arm is the case of the step at its place, and what it asks holds of a unit in range.
 use mathlib.Core.Path.{ap, _∙_}
-use native.Mathlib.Omega.{arith}
 use denote.Ref.{now}
 use Rattle.unit.specs.declared.Phase.the-variants.{Awake}
 use Rattle.unit.specs.Phases.{positionOf, need}

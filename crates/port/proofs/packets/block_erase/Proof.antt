@@ -6,7 +6,7 @@ use denote.Ref.{now}
 use mathlib.Core.List.{List}
 use mathlib.Core.List.{List}
 use Prim.Native.Nat.{ℕ, suc}
-use lib.ListN.{getD, take, set}
+use lib.ListN.{getD, set}
 use Rattle.flash.specs.Blocks.{part, pageAddress}
 use Rattle.flash.specs.Image.{eraseBlock}
 use Rattle.unit.specs.Phases.{need}

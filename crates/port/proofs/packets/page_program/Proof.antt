@@ -5,7 +5,7 @@ use mathlib.Core.Path.{_≡_, refl, ap, sym, _∙_}
 use denote.Ref.{now}
 use mathlib.Core.List.{List}
 use Prim.Native.Nat.{ℕ, suc}
-use lib.ListN.{take, set, length-set}
+use lib.ListN.{take}
 use Rattle.unit.specs.Phases.{need}
 use Rattle.unit.specs.Model.{whole}
 use Rattle.unit.specs.Phases.Kind.{page-program}

@@ -1,8 +1,8 @@
 -- `port::packets::page_read` meets its contract: the first byte is collected, and the second answers the page.
 use native.Mathlib.Omega.{arith}
-use mathlib.Core.Path.{_≡_, refl, ap, sym, _∙_}
+use mathlib.Core.Path.{_≡_, refl, ap, _∙_}
 use denote.Ref.{now}
-use mathlib.Core.List.{List, _++_}
+use mathlib.Core.List.{List}
 use Prim.Native.Nat.{ℕ, suc}
 use lib.ListN.{getD, set}
 use Rattle.flash.specs.Blocks.{part}

@@ -1,11 +1,11 @@
 -- `port::packets::unit_program` meets its contract: its bytes are collected, and at the last, which its fourth byte tells, they are programmed.
 use native.Mathlib.Numerals.{add-one}
 use native.Mathlib.Omega.{arith}
-use mathlib.Core.Path.{_≡_, refl, ap, sym, _∙_}
+use mathlib.Core.Path.{refl, ap, sym, _∙_}
 use denote.Ref.{now}
 use mathlib.Core.List.{List}
 use Prim.Native.Nat.{ℕ, _+_}
-use lib.ListN.{getD, take, set, length-set}
+use lib.ListN.{getD, take, set}
 use Rattle.unit.specs.Phases.{need}
 use Rattle.unit.specs.Model.{whole}
 use Rattle.unit.specs.Phases.Kind.{unit-program}
