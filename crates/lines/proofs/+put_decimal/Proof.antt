@@ -1,5 +1,5 @@
 -- `put_decimal` meets its contract: each call writes the digits before the last one, and then the last one. The measure is the most digits.
-use Prim.Native.Nat.{ℕ, _-_}
+use Prim.Native.Nat.{ℕ, _-_, _<_}
 use native.Mathlib.Omega.{arith}
 use mathlib.Core.Path.{_≡_, _∙_}
 use denote.Ref.{now}
