@@ -8,8 +8,8 @@ use std::process::Command;
 pub enum Verdict {
     /// A fact that no longer holds, and where.
     Fact(String),
-    /// Only the proof's text no longer fits, or another error; and what a run shows.
-    Unfit(String),
+    /// Only the proof's text no longer fits, or another error; what a run shows, and whether it differs.
+    Unfit(String, bool),
     Survived,
     /// It could not be tried.
     Untried(String),
@@ -19,7 +19,7 @@ impl Verdict {
     pub fn line(&self) -> String {
         match self {
             Verdict::Fact(at) => format!("refused by a fact, {at}"),
-            Verdict::Unfit(at) => format!("unfit, {at}"),
+            Verdict::Unfit(at, _) => format!("unfit, {at}"),
             Verdict::Survived => "SURVIVED".into(),
             Verdict::Untried(why) => format!("NOT TRIED: {why}"),
         }
@@ -67,14 +67,17 @@ fn tried(root: &Path, from: &Path, room: &Path, change: &Change) -> Result<Verdi
     Ok(match word {
         "fact" => Verdict::Fact(place(line)),
         "none" => Verdict::Untried("rt failed without an error of a proof".into()),
-        _ => Verdict::Unfit(format!("{}; {}", place(line), run(root, room, change)?)),
+        _ => {
+            let (shown, differs) = run(root, room, change)?;
+            Verdict::Unfit(format!("{}; {shown}", place(line)), differs)
+        }
     })
 }
 
-/// What a run of the changed code shows where no fact refused it.
-fn run(root: &Path, room: &Path, change: &Change) -> Result<String, String> {
+/// What a run of the changed code shows where no fact refused it, and whether it differs from the second program.
+fn run(root: &Path, room: &Path, change: &Change) -> Result<(String, bool), String> {
     if change.laws_only {
-        return Ok("a definition, which is not run".into());
+        return Ok(("NOT RUN: a definition".into(), false));
     }
     let said = Command::new("sh")
         .arg(root.join("tools/differs"))
@@ -82,11 +85,12 @@ fn run(root: &Path, room: &Path, change: &Change) -> Result<String, String> {
         .output()
         .map_err(|e| format!("tools/differs: {e}"))?;
     let told = String::from_utf8_lossy(&said.stdout).trim().to_string();
-    Ok(match said.status.code() {
+    let shown = match said.status.code() {
         Some(0) => format!("a run differs from the second program: {told}"),
         Some(1) => format!("NO RUN DIFFERS: {told}"),
         _ => format!("CANNOT BE RUN: {told}"),
-    })
+    };
+    Ok((shown, said.status.success()))
 }
 
 /// Makes the change in a copy of `from` and has it proved.
@@ -94,7 +98,7 @@ pub fn judge(root: &Path, from: &Path, room: &Path, change: &Change) -> Verdict 
     tried(root, from, room, change).unwrap_or_else(Verdict::Untried)
 }
 
-/// Prints the table; true where nothing survived, all were tried, and at most one in ten is unfit.
+/// Prints the table; true where nothing survived, all were tried, at most one in ten is unfit, and each of these differs at a run.
 pub fn table(changes: &[Change], results: &[(usize, Verdict)]) -> bool {
     println!("| Part | Changes | Refused by a fact | Unfit | Survived |");
     println!("|---|---|---|---|---|");
@@ -107,10 +111,11 @@ pub fn table(changes: &[Change], results: &[(usize, Verdict)]) -> bool {
             .collect();
         let count = |f: fn(&Verdict) -> bool| of.iter().filter(|v| f(v)).count();
         let fact = count(|v| matches!(v, Verdict::Fact(_)));
-        let unfit = count(|v| matches!(v, Verdict::Unfit(_)));
+        let unfit = count(|v| matches!(v, Verdict::Unfit(..)));
         let survived = count(|v| matches!(v, Verdict::Survived));
         println!("| {part} | {} | {fact} | {unfit} | {survived} |", of.len());
-        good = good && fact + unfit == of.len() && unfit * 10 <= of.len();
+        let unseen = count(|v| matches!(v, Verdict::Unfit(_, false)));
+        good = good && fact + unfit == of.len() && unfit * 10 <= of.len() && unseen == 0;
     }
     println!();
     println!("| No. | Place | Was | Becomes | Outcome |");

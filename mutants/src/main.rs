@@ -4,7 +4,7 @@
 //!     mutants ROOT SCRATCH [WORD..]     tries each, or those whose place has one of the words
 //!
 //! ROOT is the repository, proved; SCRATCH an empty folder. The table goes to standard output, progress to standard error. Status 0 where
-//! nothing survived and at most one in ten is unfit.
+//! nothing survived, at most one in ten is unfit, and a run of each unfit change differs from the second program.
 
 mod change;
 mod house;
