@@ -5,7 +5,7 @@ use std::path::Path;
 use std::process::Command;
 
 /// The crates whose definitions are changed, in the order of their proofs, and `demands`, which judges them.
-const CRATES: [&str; 5] = ["packets", "flash", "unit", "protocol", "demands"];
+const CRATES: [&str; 6] = ["slices", "packets", "flash", "unit", "protocol", "demands"];
 
 fn told<T>(path: &Path, result: std::io::Result<T>) -> Result<T, String> {
     result.map_err(|e| format!("{}: {e}", path.display()))

@@ -6,7 +6,7 @@ use Rattle.unit.specs.declared.State.{State}
 use Rattle.unit.specs.declared.Settings.{Settings}
 use Rattle.unit.specs.declared.Registers.{Registers}
 use Rattle.protocol.specs.Outcome.{Outcome}
-use Rattle.acts.specs.Clauses.{ProgramEnsures, EraseEnsures, EraseAllEnsures, CheckIdEnsures, front, ShowPageEnsures}
+use Rattle.acts.specs.Clauses.{ProgramEnsures, EraseEnsures, EraseAllEnsures, CheckIdEnsures, ShowPageEnsures}
 
 -- the registers and the image that an outcome has
 abbrev rest : Outcome → Registers × List ℕ
@@ -26,9 +26,6 @@ module _ (s : State) (t : Settings) (image : List ℕ) (x y : Registers × List 
 pub acts-check-id-pinned : (registers : Registers) (t : Settings) (image xs : List ℕ) (x y : Registers)
     → CheckIdEnsures registers t image xs x → CheckIdEnsures registers t image xs y → x ≡ y
 acts-check-id-pinned registers t image xs x y p q = p ∙ sym q
-
-pub acts-copy-pinned : (dst src x y : List ℕ) → x ≡ front src dst → y ≡ front src dst → x ≡ y
-acts-copy-pinned dst src x y p q = p ∙ sym q
 
 pub acts-show-page-pinned : (image reply : List ℕ) (mid high : ℕ) (x y : List ℕ)
     → ShowPageEnsures image reply mid high x → ShowPageEnsures image reply mid high y → x ≡ y

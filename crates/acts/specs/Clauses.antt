@@ -2,9 +2,9 @@
 use Prim.Native.Nat.{ℕ}
 use mathlib.Core.Path.{_≡_}
 use mathlib.Core.Bool.{Bool, true, cond, not, _&&_}
-use mathlib.Core.List.{List, _++_}
-use lib.ListN.{length, take, drop}
+use mathlib.Core.List.{List}
 use lib.Dec.{eqb}
+use Rattle.slices.specs.Lists.{front}
 use Rattle.flash.specs.Blocks.{part}
 use Rattle.flash.specs.Image.{written, pagePart, eraseBlock, eraseAll}
 use Rattle.unit.specs.declared.Registers.{Registers}
@@ -15,31 +15,27 @@ use Rattle.protocol.specs.Outcome.{Outcome, quiet}
 use Rattle.protocol.specs.Endings.{pageReply, reaching, programs, erases, judged}
 
 -- the packet has ended: the unit is at a command with these registers, nothing is collected, and this is its image
-abbrev pub ended : Settings → Registers → List ℕ → Outcome
-ended t r img = quiet (whole (commanded r) t noBytes) img
+abbrev pub afterPacket : Settings → Registers → List ℕ → Outcome
+afterPacket t r img = quiet (whole (commanded r) t noBytes) img
 
 -- a program of these bytes from this address on leaves those registers and that image to any unit with the state s, whatever it has collected
 abbrev pub ProgramEnsures : State → Settings → List ℕ → ℕ → List ℕ → ℕ → Registers → List ℕ → Type 0
 ProgramEnsures s t img a ds most r img′ =
-    (got : List ℕ) → ended t r img′ ≡ programs (whole s t got) img (reaching most (t .protection) img a ds)
+    (got : List ℕ) → afterPacket t r img′ ≡ programs (whole s t got) img (reaching most (t .protection) img a ds)
 
 -- the same of an erase of the block of this address, with this confirm byte
 abbrev pub EraseEnsures : State → Settings → List ℕ → ℕ → ℕ → Registers → List ℕ → Type 0
 EraseEnsures s t img a confirm r img′ =
-    (got : List ℕ) → ended t r img′ ≡ erases (whole s t got) img confirm (eraseBlock part (t .protection) img a)
+    (got : List ℕ) → afterPacket t r img′ ≡ erases (whole s t got) img confirm (eraseBlock part (t .protection) img a)
 
 -- the same of an erase of all blocks
 abbrev pub EraseAllEnsures : State → Settings → List ℕ → ℕ → Registers → List ℕ → Type 0
 EraseAllEnsures s t img confirm r img′ =
-    (got : List ℕ) → ended t r img′ ≡ erases (whole s t got) img confirm (written (eraseAll part (t .protection) img) true)
+    (got : List ℕ) → afterPacket t r img′ ≡ erases (whole s t got) img confirm (written (eraseAll part (t .protection) img) true)
 
 -- an ID check changes SRD1 alone
 abbrev pub CheckIdEnsures : Registers → Settings → List ℕ → List ℕ → Registers → Type 0
 CheckIdEnsures r₀ t img xs r = r ≡ withSrd1 r₀ (judged (t .blank) img xs)
-
--- bytes at the front of an area, as far as they fit, and the rest of the area as it was
-unfoldable pub front : List ℕ → List ℕ → List ℕ
-front bytes area = take (length area) bytes ++ drop (length bytes) area
 
 -- a page's reply, at the front of an area
 abbrev pub ShowPageEnsures : List ℕ → List ℕ → ℕ → ℕ → List ℕ → Type 0

@@ -5,13 +5,13 @@ use unit::State;
 use unit::Unit;
 ghost use mathlib.Core.Path.{_≡_};
 ghost use mathlib.Core.Bool.{cond};
-ghost use Prim.Native.Nat.{_+_, _%_, min};
+ghost use Prim.Native.Nat.{_+_, _%_};
 ghost use lib.Dec.{leb};
-ghost use Rattle.flash.specs.Lists.{same};
+ghost use Rattle.slices.specs.Lists.{same};
 ghost use Rattle.flash.specs.Image.{written};
 ghost use Rattle.unit.specs.Model.{withSrd};
 ghost use Rattle.protocol.specs.Endings.{reaching, rightId};
-ghost use Rattle.acts.specs.Clauses.{ProgramEnsures, EraseEnsures, EraseAllEnsures, CheckIdEnsures, ShowPageEnsures, front, carries, unconfirmed};
+ghost use Rattle.acts.specs.Clauses.{ProgramEnsures, EraseEnsures, EraseAllEnsures, CheckIdEnsures, ShowPageEnsures, carries, unconfirmed};
 
 // SRD ready, or ready and this error.
 fn reported(registers: Registers, good: bool, bad: u8) -> Registers
@@ -109,23 +109,6 @@ pub fn erase_all(s: State, settings: Settings, image: &mut [u8], confirm: u8) ->
     not_carried(registers, confirm)
 }
 
-// Two lists of bytes are the same.
-fn is_same(a: &[u8], b: &[u8]) -> bool
-    ensures { λ r. ⌜ r ≡ same (now (a .entry)) (now (b .entry)) ⌝ }
-{
-    if a.len() != b.len() {
-        return false;
-    }
-    let mut i = 0;
-    while i < a.len() {
-        if a[i] != b[i] {
-            return false;
-        }
-        i += 1;
-    }
-    true
-}
-
 // What followed F5 is what follows it in the right ID packet.
 fn is_right(image: &[u8], xs: &[u8]) -> bool
     ensures { λ r. ⌜ r ≡ same (now (xs .entry)) (rightId (now (image .entry))) ⌝ }
@@ -144,7 +127,7 @@ fn is_right(image: &[u8], xs: &[u8]) -> bool
         id[5],
         id[6],
     ];
-    is_same(xs, &right)
+    slices::is_same(xs, &right)
 }
 
 // An ID check whose bytes after F5 are `xs`.
@@ -160,24 +143,6 @@ pub fn check_id(registers: Registers, settings: Settings, image: &[u8], xs: &[u8
     registers.with_srd1(Unit::MISMATCH)
 }
 
-fn fewer(a: usize, b: usize) -> usize
-    ensures { λ r. ⌜ r ≡ min a b ⌝ }
-{
-    if a < b { a } else { b }
-}
-
-// As many bytes of src as fit, at the front of dst.
-pub fn copy(dst: &mut [u8], src: &[u8])
-    ensures { λ _. ⌜ now (dst .exit) ≡ front (now (src .entry)) (now (dst .entry)) ⌝ }
-{
-    let n = fewer(src.len(), dst.len());
-    let mut i = 0;
-    while i < n {
-        dst[i] = src[i];
-        i += 1;
-    }
-}
-
 // A page at the front of the reply area, or 256 bytes FF for an outside one.
 pub fn show_page(image: &[u8], reply: &mut [u8], mid: u8, high: u8)
     ensures { λ _. ⌜ ShowPageEnsures (now (image .entry)) (now (reply .entry)) mid high (now (reply .exit)) ⌝ }
@@ -185,8 +150,8 @@ pub fn show_page(image: &[u8], reply: &mut [u8], mid: u8, high: u8)
     let page = flash::page(image, mid, high);
     if page.len() == 0 {
         let blank = [0xFFu8; 256];
-        copy(reply, &blank);
+        slices::copy(reply, &blank);
     } else {
-        copy(reply, page);
+        slices::copy(reply, page);
     }
 }

@@ -20,7 +20,7 @@ fn read_image(image: &mut [u8]) -> usize
 
 // Writes a line.
 fn show(line: &[u8; 1024], n: usize) {
-    io::write_all(STDOUT_FILENO, lines::first(line, n));
+    io::write_all(STDOUT_FILENO, slices::first(line, n));
 }
 
 // A byte call, and its reply's line.

@@ -4,8 +4,8 @@ use mathlib.Core.Path.{_≡_, refl, ap, ap₂, sym, _∙_, subst⁻¹}
 use mathlib.Core.List.{List, [], _∷_, _++_}
 use lib.ListN.{length, take}
 use lib.Seq.{length-take-le}
-use Rattle.flash.specs.Lists.{Each, Bytes}
-use Rattle.flash.proofs.Lists.{bytes-take}
+use Rattle.slices.specs.Lists.{Each, Bytes}
+use Rattle.slices.proofs.Lists.{bytes-take}
 use Rattle.unit.specs.declared.Unit.{Unit as Port}
 use Rattle.unit.specs.declared.Inputs.{Inputs}
 use Rattle.unit.specs.declared.Settings.{Settings}

@@ -12,10 +12,10 @@ use lib.Seq.{take-append-le, take-append-seam}
 use borrow.Author.Tests.{ne-eqb}
 use Rattle.packets.specs.Pieces.{Each as EachPiece, Packet, lone, check, packetBytes, Unfinished, right, joined}
 use Rattle.packets.specs.Readings.{Wrong}
-use Rattle.flash.specs.Lists.{Each, Bytes}
+use Rattle.slices.specs.Lists.{Each, Bytes}
 use Rattle.flash.specs.Blocks.{find, holds, placeOf}
 use Rattle.flash.specs.Image.{byteAt}
-use Rattle.flash.proofs.Lists.{bytes-append}
+use Rattle.slices.proofs.Lists.{bytes-append}
 use Rattle.unit.specs.declared.Unit.{Unit as Port}
 use Rattle.unit.specs.declared.Registers.{Registers}
 use Rattle.unit.specs.declared.Phase.the-variants.{Awake}

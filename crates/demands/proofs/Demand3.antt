@@ -6,7 +6,7 @@ use mathlib.Core.Path.{_≡_, ap, sym, _∙_, subst₂}
 use mathlib.Core.List.{List}
 use lib.ListN.{length, take}
 use Rattle.packets.specs.Readings.{Opening}
-use Rattle.flash.proofs.Lists.{bytes-take}
+use Rattle.slices.proofs.Lists.{bytes-take}
 use Rattle.unit.specs.declared.Unit.{Unit as Port}
 use Rattle.unit.specs.declared.Inputs.{Inputs}
 use Rattle.unit.specs.Model.{fresh}

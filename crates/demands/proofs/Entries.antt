@@ -7,7 +7,7 @@ use mathlib.Core.Path.{_≡_, refl, ap, ap₂, sym, _∙_, subst}
 use mathlib.Core.List.{List, [], _∷_, _++_}
 use lib.ListN.{length, getD, take, drop}
 use lib.Seq.{length-take-le, take-all, take-take, take-suc, drop-cons, take-append-seam, drop-append-seam}
-use Rattle.flash.specs.Lists.{Bytes}
+use Rattle.slices.specs.Lists.{Bytes}
 use Rattle.unit.specs.declared.Unit.{Unit as Port}
 use Rattle.unit.proofs.Ranged.{Sound, in-range}
 use Rattle.protocol.specs.Outcome.{Outcome, says, quiet}

@@ -7,8 +7,8 @@ use lib.ListN.{length, getD, take, drop, length-drop}
 use lib.Seq.{take-suc, drop-cons, getD-drop, take-suc-set}
 use lib.Dec.{eqb}
 use borrow.Author.Tests.{eqb-true}
-use Rattle.flash.specs.Lists.{Each}
-use Rattle.flash.proofs.Lists.{cond-elim}
+use Rattle.slices.specs.Lists.{Each}
+use Rattle.slices.proofs.Lists.{cond-elim}
 use Rattle.unit.specs.declared.Unit.{Unit as Port}
 use Rattle.unit.specs.declared.Phase.{Phase}
 use Rattle.unit.specs.declared.Phase.the-variants.{Asleep, Awake}

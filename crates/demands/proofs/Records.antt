@@ -10,10 +10,10 @@ use lib.Dec.{ltb, eqb}
 use borrow.Author.Tests.{ltb-true, leb-true, eqb-true, lt-ltb, le-leb, eq-eqb}
 use Rattle.flash.specs.declared.Found.{Found}
 use Rattle.flash.specs.declared.Found.the-variants.{Inside, Outside}
-use Rattle.flash.specs.Lists.{same}
+use Rattle.slices.specs.Lists.{same}
 use Rattle.flash.specs.Blocks.{part, sized, holds, find, placeOf, blockFrom, blockSize}
 use Rattle.flash.specs.Image.{byteAt, storedId, isBlank}
-use Rattle.flash.proofs.Lists.{and-both, both-and}
+use Rattle.slices.proofs.Lists.{and-both, both-and}
 use Rattle.flash.proofs.Places.{rising, Lies, found, lies, not-outside}
 use Rattle.flash.proofs.Outcomes.{true-sized}
 use Rattle.unit.specs.declared.Unit.{Unit as Port}

@@ -11,7 +11,7 @@ use lib.Seq.{take-append-seam}
 use Rattle.packets.specs.Pieces.{joined, stretchBytes, packetBytes, right}
 use Rattle.packets.specs.Readings.{Bytes as PacketBytes, Log, slept, stayed-shut, opened, logBytes, Reads, Opening}
 use Rattle.packets.proofs.Readings.{reading}
-use Rattle.flash.specs.Lists.{Bytes}
+use Rattle.slices.specs.Lists.{Bytes}
 use Rattle.flash.specs.Blocks.{part}
 use Rattle.flash.specs.Image.{isBlank}
 use Rattle.unit.specs.declared.Inputs.{Inputs}

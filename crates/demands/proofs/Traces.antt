@@ -5,7 +5,7 @@ use mathlib.Core.Path.{_≡_, refl, ap, sym, _∙_, subst, subst⁻¹}
 use mathlib.Core.List.{List, [], _∷_, _++_}
 use lib.ListN.{length, getD, take, drop}
 use lib.Seq.{take-nil}
-use Rattle.flash.specs.Lists.{Bytes}
+use Rattle.slices.specs.Lists.{Bytes}
 use Rattle.unit.specs.declared.Unit.{Unit as Port}
 use Rattle.unit.proofs.Ranged.{Sound}
 use Rattle.protocol.specs.Outcome.{Outcome, says}

@@ -6,8 +6,8 @@ use mathlib.Core.Path.{_≡_, refl, ap, sym, _∙_, subst, subst₂}
 use mathlib.Core.List.{List, [], _∷_, _++_, append-nil, append-cancel-left}
 use lib.ListN.{length, take, drop, length-take}
 use lib.Seq.{take-take}
-use Rattle.flash.specs.Lists.{Bytes}
-use Rattle.flash.proofs.Lists.{bytes-take, bytes-append}
+use Rattle.slices.specs.Lists.{Bytes}
+use Rattle.slices.proofs.Lists.{bytes-take, bytes-append}
 use Rattle.unit.specs.declared.Unit.{Unit as Port}
 use Rattle.unit.specs.declared.Registers.{Registers}
 use Rattle.protocol.specs.Outcome.{Outcome}

@@ -7,8 +7,8 @@ use mathlib.Core.List.{List, [], _∷_, _++_, map}
 use lib.ListN.{length, getD, replicate, drop}
 use lib.Dec.{ltb}
 use borrow.Author.Tests.{ltb-true}
-use Rattle.flash.specs.Lists.{Each, Bytes}
-use Rattle.flash.proofs.Lists.{and-both}
+use Rattle.slices.specs.Lists.{Each, Bytes}
+use Rattle.slices.proofs.Lists.{and-both}
 use Rattle.flash.specs.Blocks.{sized, holds, find, placeOf, guarded, free}
 use Rattle.flash.specs.Image.{byteAt, storedId, isBlank, programmed, permitted, burnt, program}
 use Rattle.unit.specs.declared.Unit.{Unit as Port}

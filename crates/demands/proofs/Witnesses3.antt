@@ -13,8 +13,8 @@ use Rattle.packets.proofs.Decisions.{reads?}
 use Rattle.packets.proofs.Openings.{shut-where}
 use lib.Dec.{ltb}
 use borrow.Author.Tests.{ltb-true}
-use Rattle.flash.specs.Lists.{Bytes}
-use Rattle.flash.proofs.Lists.{and-both}
+use Rattle.slices.specs.Lists.{Bytes}
+use Rattle.slices.proofs.Lists.{and-both}
 use Rattle.flash.specs.Blocks.{sized, holds, find, placeOf}
 use Rattle.flash.specs.Image.{byteAt, storedId, isBlank}
 use Rattle.unit.specs.Phases.{commandOf, need}

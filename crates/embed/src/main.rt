@@ -3,11 +3,6 @@ use libc::STDERR_FILENO;
 use libc::STDOUT_FILENO;
 use unit::Inputs;
 
-// The first n bytes of an area, or all where there are fewer.
-fn front(area: &[u8], n: usize) -> &[u8] {
-    if n < area.len() { &area[..n] } else { area }
-}
-
 fn stop(why: &[u8]) {
     io::write_all(STDERR_FILENO, why);
 }
@@ -32,5 +27,5 @@ fn main() {
     if answer.taken < bytes.len() {
         return stop(b"embed: the area has too little room\n");
     }
-    io::write_all(STDOUT_FILENO, front(&area, answer.reply_len));
+    io::write_all(STDOUT_FILENO, slices::first(&area, answer.reply_len));
 }

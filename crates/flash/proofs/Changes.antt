@@ -11,7 +11,7 @@ use lib.Seq.{getD-drop, getD-append-add}
 use lib.Bits.{bitAnd}
 use Rattle.flash.specs.Blocks.{Block, sized, imageSize, find, blockFrom, blockSize, guarded, free, placeOf}
 use Rattle.flash.specs.Image.{burn, programmed, erased, wiped, wipedFree, wipedTo, eraseAll, permitted, Written, written, program, burnt, eraseBlock}
-use Rattle.flash.proofs.Lists.{cond-elim, below-kept, from-on}
+use Rattle.slices.proofs.Lists.{cond-elim, below-kept, from-on}
 use Rattle.flash.proofs.Turns.{length-burn}
 use Rattle.flash.proofs.Places.{block-ends, found-number}
 use Rattle.flash.proofs.Permits.{free-found}

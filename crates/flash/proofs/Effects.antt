@@ -13,11 +13,11 @@ use lib.Bits.{bitAnd}
 use borrow.Author.Tests.{eqb-true, eqb-false}
 use Rattle.flash.specs.declared.Found.{Found}
 use Rattle.flash.specs.declared.Found.the-variants.{Inside, Outside}
-use Rattle.flash.specs.Lists.{same}
+use Rattle.slices.specs.Lists.{same}
 use Rattle.flash.specs.Blocks.{Block, Rising, imageSize, sized, find, placeOf, guarded}
 use Rattle.flash.specs.Image.{byteAt, permitted, programmed, wiped}
 use Rattle.flash.specs.Effects.{isInside, Programmed, Erased}
-use Rattle.flash.proofs.Lists.{same-true, same-refl}
+use Rattle.slices.proofs.Lists.{same-true, same-refl}
 use Rattle.flash.proofs.Places.{found-number, found-from, found-under, one-place, in-order, every-place}
 use Rattle.flash.proofs.Permits.{permitted-some, permitted-found, permitted-fits, permitted-inside}
 use Rattle.flash.proofs.Outcomes.{sized-true}

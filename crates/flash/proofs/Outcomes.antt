@@ -9,10 +9,10 @@ use lib.Seq.{take-at, drop-at, length-take-le}
 use lib.Bits.{bitAnd}
 use borrow.Author.Tests.{eq-eqb, ne-eqb, eqb-true}
 use Rattle.flash.specs.declared.Found.the-variants.{Inside}
-use Rattle.flash.specs.Lists.{same}
+use Rattle.slices.specs.Lists.{same}
 use Rattle.flash.specs.Blocks.{Block, imageSize, sized, find, blockOf, placeOf, guarded, free}
 use Rattle.flash.specs.Image.{burn, programmed, permitted, written, burnt, program, wiped, eraseBlock, wipedFree, wipedTo, eraseAll}
-use Rattle.flash.proofs.Lists.{both-and, and-false}
+use Rattle.slices.proofs.Lists.{both-and, and-false}
 use Rattle.flash.proofs.Turns.{length-burn}
 
 pub sized-true : (bs : List Block) (img : List ℕ) → sized bs img ≡ true → length img ≡ imageSize bs

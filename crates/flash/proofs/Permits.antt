@@ -12,7 +12,7 @@ use Rattle.flash.specs.declared.Found.{Found}
 use Rattle.flash.specs.declared.Found.the-variants.{Inside, Outside}
 use Rattle.flash.specs.Blocks.{Block, part, Rising, imageSize, find, guarded, free}
 use Rattle.flash.specs.Image.{freeFrom, permitted}
-use Rattle.flash.proofs.Lists.{and-both, both-and}
+use Rattle.slices.proofs.Lists.{and-both, both-and}
 use Rattle.flash.proofs.Places.{Lies, found, found-fits, next-place, page-inside, page-outside}
 
 -- what is free is inside, in a block that is not protected

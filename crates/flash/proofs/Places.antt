@@ -1,7 +1,7 @@
 -- Addresses, places and blocks of any part whose blocks rise: block i holds an address exactly where `find` says so, and the places of a part are its bytes in the order of their addresses.
 use Prim.Native.Nat.{ℕ, zero, suc, _+_, _-_, _%_, _≤_, _<_}
 use native.Mathlib.Omega.{arith}
-use mathlib.Core.Bool.{Bool, true, false, cond, false≢true}
+use mathlib.Core.Bool.{Bool, true, false, cond, _&&_, false≢true}
 use mathlib.Core.Path.{_≡_, refl, ap, sym, _∙_, subst, subst⁻¹}
 use mathlib.Core.List.{List, [], _∷_}
 use lib.ListN.{length}
@@ -11,7 +11,7 @@ use borrow.Author.Tests.{ltb-true, leb-true, lt-ltb, le-leb, lt-leb}
 use Rattle.flash.specs.declared.Found.{Found}
 use Rattle.flash.specs.declared.Found.the-variants.{Inside, Outside}
 use Rattle.flash.specs.Blocks.{Block, block, part, Rising, imageSize, holds, findFrom, find, blockFrom, blockSize}
-use Rattle.flash.proofs.Lists.{and-both, both-and, cond-elim}
+use Rattle.slices.proofs.Lists.{and-both, both-and, cond-elim}
 
 pub rising : Rising 0 part
 rising = (omega arith, omega arith, refl, refl, (omega arith, omega arith, refl, refl, (omega arith, omega arith, refl, refl, (omega arith, omega arith, refl, refl, tt))))
@@ -61,11 +61,11 @@ find-cons b bs a = ap (λ (w : Found). cond (holds b a) (Inside 0 (0 + (a - b .a
 -- an address from the block's first on, and one before it
 pub held-from : (f n a : ℕ) → f ≤ a → ltb a (f + n) ≡ holds (block f n) a
 unfolding holds
-held-from f n a h = rw (le-leb f a h)
+held-from f n a h = sym (ap (λ (t : Bool). t && ltb a (f + n)) (le-leb f a h))
 
 pub not-held : (f n a : ℕ) → a < f → false ≡ holds (block f n) a
 unfolding holds
-not-held f n a h = rw (lt-leb f a h)
+not-held f n a h = sym (ap (λ (t : Bool). t && ltb a (f + n)) (lt-leb f a h))
 
 pub holds-within : (b : Block) (a : ℕ) → holds b a ≡ true → (b .address ≤ a) × (a < b .address + b .size)
 unfolding holds

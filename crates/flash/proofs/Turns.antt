@@ -11,9 +11,9 @@ use lib.Seq.{paste, paste-suc, take-all, take-length}
 use lib.Dec.{eqb}
 use lib.Bits.{bitAnd}
 use borrow.Author.Tests.{eq-eqb, ne-eqb}
-use Rattle.flash.specs.Lists.{same}
+use Rattle.slices.specs.Lists.{same}
 use Rattle.flash.specs.Image.{burn, erased}
-use Rattle.flash.proofs.Lists.{and-true, and-false, and-assoc}
+use Rattle.slices.proofs.Lists.{and-true, and-false, and-assoc}
 
 -- erasing, byte by byte
 pub erase-turn : (img l : List ℕ) (k n i : ℕ) → l ≡ paste img k (replicate n 0xFF) i → k + n ≤ length img → i < n → set l (k + i) 0xFF ≡ paste img k (replicate n 0xFF) (i + 1)

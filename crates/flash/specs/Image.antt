@@ -7,7 +7,7 @@ use lib.Dec.{ltb}
 use lib.Bits.{bitAnd}
 use Rattle.flash.specs.declared.Found.{Found}
 use Rattle.flash.specs.declared.Found.the-variants.{Inside, Outside}
-use Rattle.flash.specs.Lists.{same}
+use Rattle.slices.specs.Lists.{same}
 use Rattle.flash.specs.Blocks.{Block, sized, find, blockOf, placeOf, blockFrom, blockSize, guarded, free, pageAddress}
 
 -- the byte at an address of the part

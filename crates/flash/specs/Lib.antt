@@ -1,4 +1,3 @@
-pub mod Lists
 pub mod Blocks
 pub mod Image
 pub mod Effects

@@ -2,7 +2,7 @@
 ghost use mathlib.Core.Path.{_≡_};
 ghost use Prim.Native.Nat.{_+_, _≤_, _<_};
 ghost use lib.ListN.{length};
-ghost use Rattle.flash.specs.Lists.{same};
+ghost use Rattle.slices.specs.Lists.{same};
 ghost use Rattle.flash.specs.Blocks.{block, part, holds, find, guarded, free, blockFrom, blockSize};
 ghost use Rattle.flash.specs.Image.{burn, freeFrom, permitted, erased, wiped, wipedFree};
 ghost use Rattle.flash.specs.Clauses.{BlockOfEnsures, PageAddressEnsures, PageEnsures, IdEnsures, BlankEnsures, ProgramEnsures, EraseEnsures, EraseAllEnsures};

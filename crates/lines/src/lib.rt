@@ -96,13 +96,6 @@ fn put_last(out: &mut [u8], at: usize, bytes: &[u8]) -> usize
     put(out, next, b'\n')
 }
 
-// The first n bytes, or all where there are fewer: a reply of its area, a line of its buffer.
-pub fn first(bytes: &[u8], n: usize) -> &[u8]
-    ensures { λ r. ⌜ now r ≡ take n (now (bytes .entry)) ⌝ }
-{
-    if n < bytes.len() { &bytes[..n] } else { bytes }
-}
-
 // The three lines, in a slice of 1024 bytes.
 fn put_reply(out: &mut [u8], number: u64, reply: &[u8]) -> usize
     requires { ⌜ (length (now out) ≡ 1024) × (length (now reply) ≤ 256) ⌝ }
@@ -136,7 +129,7 @@ fn put_refused(out: &mut [u8], refusal: u8) -> usize
 pub fn reply_line(out: &mut [u8; 1024], number: u64, area: &[u8; 256], len: usize) -> usize
     ensures { λ r. ⌜ leaves r (now (out .exit)) ≡ laid (replyLine number (take len (now (area .entry)))) (now (out .entry)) ⌝ }
 {
-    put_reply(out, number, first(area, len))
+    put_reply(out, number, slices::first(area, len))
 }
 
 // The last line.

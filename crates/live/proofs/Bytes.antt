@@ -3,7 +3,7 @@ use Prim.Native.Nat.{ℕ}
 use mathlib.Core.Bool.{Bool, not}
 use mathlib.Core.Path.{_≡_, ap, _∙_}
 use mathlib.Core.List.{List}
-use Rattle.flash.specs.Lists.{same}
+use Rattle.slices.specs.Lists.{same}
 use Rattle.unit.specs.declared.Unit.{Unit as Port}
 use Rattle.protocol.specs.declared.Answer.{Answer}
 use Rattle.protocol.specs.Calls.{Left, left, byteCall}

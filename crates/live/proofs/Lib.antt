@@ -1,3 +1,2 @@
 pub mod Texts
-pub mod Images
 pub mod Bytes

@@ -9,7 +9,7 @@ use lib.ListN.{length, getD, drop}
 use lib.Seq.{drop-cons, drop-length}
 use lib.Dec.{ltb, leb}
 use borrow.Author.Tests.{ltb-true, lt-ltb, le-ltb, le-leb, lt-leb}
-use Rattle.flash.proofs.Lists.{cond-elim, and-false}
+use Rattle.slices.proofs.Lists.{cond-elim, and-false}
 use Rattle.live.specs.declared.Given.{Given}
 use Rattle.live.specs.declared.Given.the-variants.{Number, TooLarge, NotANumber}
 use Rattle.live.specs.Argument.{isDigit, told, givenFrom, given, capped}

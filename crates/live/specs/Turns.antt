@@ -1,16 +1,11 @@
 -- What a byte of the line leads to in the live program: what the port's call leaves, and whether the image is no longer the stored one.
 use Prim.Native.Nat.{ℕ}
 use mathlib.Core.Bool.{Bool, not}
-use mathlib.Core.List.{List, _++_}
-use lib.ListN.{length, take, drop}
-use Rattle.flash.specs.Lists.{same}
+use mathlib.Core.List.{List}
+use Rattle.slices.specs.Lists.{same}
 use Rattle.unit.specs.declared.Unit.{Unit as Port}
 use Rattle.protocol.specs.Calls.{Left, left, byteCall}
 use Rattle.live.specs.declared.Turn.{Turn}
-
--- the stored image made the image, as far as it has room
-unfoldable pub kept : List ℕ → List ℕ → List ℕ
-kept stored img = take (length stored) img ++ drop (length img) stored
 
 pub record Turned : Type 0 where
   pub all : Left

@@ -2,11 +2,8 @@
 use protocol::Answer;
 use unit::Unit;
 ghost use mathlib.Core.Path.{_≡_};
-ghost use mathlib.Core.Bool.{not};
-ghost use lib.ListN.{take};
-ghost use Rattle.flash.specs.Lists.{same};
 ghost use Rattle.live.specs.Argument.{capped, given};
-ghost use Rattle.live.specs.Turns.{kept, turned, turnCall};
+ghost use Rattle.live.specs.Turns.{turned, turnCall};
 
 // What the argument says.
 pub enum Given {
@@ -58,52 +55,13 @@ pub fn protection(text: &[u8]) -> Given
     Given::Number(n as u8)
 }
 
-// The image is not the stored one. No early end: the loop is then a few wide instructions.
-pub fn is_changed(stored: &[u8], image: &[u8]) -> bool
-    ensures { λ r. ⌜ r ≡ not (same (now (stored .entry)) (now (image .entry))) ⌝ }
-{
-    if stored.len() != image.len() {
-        return true;
-    }
-    let mut changed = false;
-    let mut i = 0;
-    while i < stored.len() {
-        if stored[i] != image[i] {
-            changed = true;
-        }
-        i += 1;
-    }
-    changed
-}
-
-// Makes the image the stored one: all of it where the two are of one size, else as much as there is room for.
-pub fn keep(stored: &mut [u8], image: &[u8])
-    ensures { λ _. ⌜ now (stored .exit) ≡ kept (now (stored .entry)) (now (image .entry)) ⌝ }
-{
-    let mut i = 0;
-    while i < stored.len() {
-        if i == image.len() {
-            return;
-        }
-        stored[i] = image[i];
-        i += 1;
-    }
-}
-
-// The first n bytes, or all where there are fewer.
-pub fn front(area: &[u8], n: usize) -> &[u8]
-    ensures { λ r. ⌜ now r ≡ take n (now (area .entry)) ⌝ }
-{
-    if n < area.len() { &area[..n] } else { area }
-}
-
 // Gives a byte to the port, and says whether the image that it leaves is to be saved.
 pub fn give(u: Unit, image: &mut [u8], stored: &[u8], reply: &mut [u8], b: u8) -> Turn
     ensures { λ r. ⌜ turned r (now (image .exit)) (now (reply .exit))
         ≡ turnCall u (now (image .entry)) (now (stored .entry)) (now (reply .entry)) b ⌝ }
 {
     let answer = port::byte(u, image, reply, b);
-    let changed = is_changed(stored, image);
+    let changed = !slices::is_same(stored, image);
     Turn {
         answer: answer,
         changed: changed,

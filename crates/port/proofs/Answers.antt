@@ -15,7 +15,7 @@ use Rattle.protocol.specs.Calls.{Left, answered}
 use Rattle.protocol.proofs.Steps.{step-at}
 use Rattle.commands.specs.declared.Said.{Said}
 use Rattle.commands.specs.Clauses.{said, counted}
-use Rattle.acts.specs.Clauses.{front}
+use Rattle.slices.specs.Lists.{front}
 use Rattle.port.specs.declared.Took.{Took}
 use Rattle.port.specs.Parts.{took, silent, quietly}
 

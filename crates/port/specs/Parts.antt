@@ -4,7 +4,7 @@ use mathlib.Core.Path.{_≡_}
 use mathlib.Core.Bool.{true}
 use mathlib.Core.List.{List}
 use lib.ListN.{length}
-use Rattle.flash.specs.Lists.{Bytes}
+use Rattle.slices.specs.Lists.{Bytes}
 use Rattle.unit.specs.declared.Unit.{Unit as Port}
 use Rattle.unit.specs.declared.State.{State}
 use Rattle.unit.specs.declared.Settings.{Settings}

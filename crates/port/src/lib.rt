@@ -87,7 +87,7 @@ fn answer(reply: &mut [u8], said: Said) -> Took
 {
     let bytes = said.reply;
     let state = said.state;
-    acts::copy(reply, &bytes[..said.len]);
+    slices::copy(reply, &bytes[..said.len]);
     Took {
         state: state,
         len: said.len,

@@ -17,7 +17,7 @@ ghost use Rattle.unit.specs.Model.{whole, withSrd1};
 ghost use Rattle.protocol.specs.Endings.{judged, finished};
 ghost use Rattle.protocol.specs.Step.{inPacket};
 ghost use Rattle.protocol.specs.Calls.{answered};
-ghost use Rattle.acts.specs.Clauses.{ended};
+ghost use Rattle.acts.specs.Clauses.{afterPacket};
 ghost use Rattle.port.specs.Parts.{took, silent};
 
 // How far the low 16 address bits and the size of a program may reach: the end of a bank of 64 KiB.
@@ -56,7 +56,7 @@ pub(crate) fn page_read(
 // A page program whose bytes `xs` have all come.
 fn program_page(s: State, settings: Settings, image: &mut [u8], xs: &[u8]) -> Registers
     requires { ⌜ length (now xs) ≡ 259 ⌝ }
-    ensures { λ r. ⌜ ((got : List ℕ) → ended settings r (now (image .exit))
+    ensures { λ r. ⌜ ((got : List ℕ) → afterPacket settings r (now (image .exit))
         ≡ finished page-program (whole s settings got) (now (image .entry)) (take 258 (now (xs .entry)))) ⌝ }
 {
     acts::program(
@@ -99,7 +99,7 @@ fn byte_address(low: u8, mid: u8, high: u8) -> u32
 // A unit program whose bytes `xs` have all come: its fourth is its size.
 fn program_unit(s: State, settings: Settings, image: &mut [u8], xs: &[u8]) -> Registers
     requires { ⌜ length (now xs) ≡ 259 ⌝ }
-    ensures { λ r. ⌜ ((got : List ℕ) → ended settings r (now (image .exit))
+    ensures { λ r. ⌜ ((got : List ℕ) → afterPacket settings r (now (image .exit))
         ≡ finished unit-program (whole s settings got) (now (image .entry)) (take (4 + getD (now (xs .entry)) 3 0) (now (xs .entry)))) ⌝ }
 {
     let n = xs[3] as usize;

@@ -10,7 +10,7 @@ use lib.Dec.{leb, eqb}
 use borrow.Author.Tests.{eqb-true, eqb-false, leb-true, not-false}
 use Rattle.flash.specs.Blocks.{part, sized, find, free}
 use Rattle.flash.specs.Image.{Written, pagePart, permitted, program, eraseBlock, eraseAll}
-use Rattle.flash.proofs.Lists.{and-both, cond-elim}
+use Rattle.slices.proofs.Lists.{and-both, cond-elim}
 use Rattle.flash.proofs.Places.{rising}
 use Rattle.flash.proofs.Outcomes.{sized-true, program-unsized, program-refused, erase-unsized, erase-refused, all-unsized}
 use Rattle.flash.proofs.Pages.{page-paged}

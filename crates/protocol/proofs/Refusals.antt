@@ -8,7 +8,7 @@ use lib.ListN.{length}
 use lib.Dec.{ltb, eqb}
 use borrow.Author.Tests.{eqb-true, eqb-false, ne-eqb, ltb-true, ltb-false, lt-ltb, le-ltb}
 use Rattle.flash.specs.Blocks.{part, sized}
-use Rattle.flash.proofs.Lists.{cond-elim}
+use Rattle.slices.proofs.Lists.{cond-elim}
 use Rattle.flash.proofs.Outcomes.{true-sized, not-sized}
 use Rattle.unit.specs.declared.Unit.{Unit as Port}
 use Rattle.unit.specs.declared.Inputs.{Inputs}

@@ -9,7 +9,7 @@ use lib.ListN.{length}
 use borrow.Author.Tests.{eqb-true}
 use Rattle.flash.specs.Blocks.{part}
 use Rattle.flash.specs.Image.{byteAt, idAddresses, storedId}
-use Rattle.flash.proofs.Lists.{same-true, same-refl}
+use Rattle.slices.proofs.Lists.{same-true, same-refl}
 use Rattle.flash.proofs.Outcomes.{true-sized}
 use Rattle.unit.specs.declared.Unit.{Unit as Port}
 use Rattle.unit.specs.Model.{withSrd1, ended, isOpen}

@@ -13,7 +13,7 @@ use Rattle.flash.specs.declared.Found.{Found}
 use Rattle.flash.specs.declared.Found.the-variants.{Inside, Outside}
 use Rattle.flash.specs.Blocks.{part, find, guarded, free}
 use Rattle.flash.specs.Image.{freeFrom, permitted}
-use Rattle.flash.proofs.Lists.{both-and}
+use Rattle.slices.proofs.Lists.{both-and}
 use Rattle.flash.proofs.Permits.{free-found, permitted-is, permitted-free, all-free}
 use Rattle.protocol.specs.Rows.{May, MayNot}
 use Rattle.protocol.specs.Rows.MayNot.{none, bank, outside, protected}

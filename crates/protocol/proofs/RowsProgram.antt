@@ -8,7 +8,7 @@ use mathlib.Core.List.{List, []}
 use lib.ListN.{length, getD, take, drop}
 use lib.Dec.{eqb, leb}
 use borrow.Author.Tests.{eqb-true, eqb-false, le-leb, lt-leb}
-use Rattle.flash.specs.Lists.{same}
+use Rattle.slices.specs.Lists.{same}
 use Rattle.flash.specs.Blocks.{part, find, sized, placeOf, pageAddress, byteAddress}
 use Rattle.flash.specs.Image.{byteAt, Written, written, permitted, programmed, burnt, program}
 use Rattle.flash.specs.Effects.{Programmed}

@@ -7,7 +7,7 @@ use mathlib.Core.Path.{_≡_, refl, sym, _∙_, subst}
 use mathlib.Core.List.{List, [], _∷_}
 use lib.Dec.{eqb}
 use borrow.Author.Tests.{ne-eqb, eqb-true}
-use Rattle.flash.proofs.Lists.{and-both}
+use Rattle.slices.proofs.Lists.{and-both}
 use Rattle.unit.specs.declared.Unit.{Unit as Port}
 use Rattle.unit.specs.declared.Phase.{Phase}
 use Rattle.unit.specs.declared.Phase.the-variants.{Asleep, Awake}

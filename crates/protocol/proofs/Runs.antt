@@ -9,8 +9,8 @@ use lib.ListN.{length, take, drop, length-append, length-drop}
 use lib.Seq.{take-append-seam, drop-append-seam, drop-drop}
 use lib.Dec.{ltb, eqb}
 use borrow.Author.Tests.{ltb-true, ltb-false, eqb-true}
-use Rattle.flash.specs.Lists.{Bytes}
-use Rattle.flash.proofs.Lists.{cond-elim}
+use Rattle.slices.specs.Lists.{Bytes}
+use Rattle.slices.proofs.Lists.{cond-elim}
 use Rattle.unit.specs.declared.Unit.{Unit as Port}
 use Rattle.unit.proofs.Ranged.{Sound, sound, in-range}
 use Rattle.protocol.specs.Outcome.{Outcome, says}

@@ -7,7 +7,7 @@ use mathlib.Core.List.{List, [], _∷_}
 use lib.ListN.{length}
 use lib.Dec.{ltb, eqb}
 use borrow.Author.Tests.{le-leb}
-use Rattle.flash.specs.Lists.{Bytes}
+use Rattle.slices.specs.Lists.{Bytes}
 use Rattle.flash.specs.Blocks.{part}
 use Rattle.flash.proofs.Changes.{length-program, length-eraseBlock, length-eraseAll}
 use Rattle.unit.specs.declared.Unit.{Unit as Port}

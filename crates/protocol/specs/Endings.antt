@@ -4,7 +4,7 @@ use mathlib.Core.Bool.{Bool, true, false, cond, not, _||_}
 use mathlib.Core.List.{List, [], _∷_}
 use lib.ListN.{length, getD, drop, replicate}
 use lib.Dec.{leb, eqb}
-use Rattle.flash.specs.Lists.{same}
+use Rattle.slices.specs.Lists.{same}
 use Rattle.flash.specs.Blocks.{part, pageAddress, byteAddress}
 use Rattle.flash.specs.Image.{Written, written, storedId, pagePart, program, eraseBlock, eraseAll}
 use Rattle.unit.specs.declared.Unit.{Unit as Port}

@@ -49,16 +49,6 @@ pub(crate) fn rest_mut(s: &mut [u8], from: usize) -> &mut [u8] {
     }
 }
 
-// The bytes of src, at the front of dst.
-pub(crate) fn copy(dst: &mut [u8], src: &[u8]) {
-    let given = first(src, dst.len());
-    let mut i = 0;
-    while i < given.len() {
-        dst[i] = given[i];
-        i += 1;
-    }
-}
-
 pub(crate) fn fill(dst: &mut [u8], v: u8) {
     let mut i = 0;
     while i < dst.len() {

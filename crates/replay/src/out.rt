@@ -16,9 +16,9 @@ pub(crate) fn emit(buffer: &mut [u8], used: usize, more: &[u8]) -> usize {
     }
     if buffer.len() - n < used {
         write(buffer, used);
-        bytes::copy(buffer, more);
+        slices::copy(buffer, more);
         return n;
     }
-    bytes::copy(&mut buffer[used..], more);
+    slices::copy(&mut buffer[used..], more);
     used + n
 }

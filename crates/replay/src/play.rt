@@ -17,7 +17,7 @@ struct Played {
 fn lay(patch: &[u8], image: &mut [u8]) {
     let n = bytes::at(patch, 2) as usize;
     let to = bytes::rest_mut(image, bytes::pair(patch, 0));
-    bytes::copy(to, bytes::first(bytes::rest(patch, 3), n));
+    slices::copy(to, bytes::first(bytes::rest(patch, 3), n));
 }
 
 // Makes the case's image: its fill and its patches. Answers where the groups begin.

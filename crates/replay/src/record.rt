@@ -62,7 +62,7 @@ pub(crate) fn read(r: &[u8]) -> Unit {
         protection: bytes::at(r, 6),
     };
     let mut collected = [0u8; 259];
-    bytes::copy(&mut collected, bytes::rest(r, 8));
+    slices::copy(&mut collected, bytes::rest(r, 8));
     Unit {
         phase: phase,
         registers: registers,
@@ -135,6 +135,6 @@ pub(crate) fn write(u: Unit) -> [u8; 267] {
     r[5] = if settings.blank { 1 } else { 0 };
     r[6] = settings.protection;
     r[7] = registers.rate;
-    bytes::copy(&mut r[8..], &collected);
+    slices::copy(&mut r[8..], &collected);
     r
 }

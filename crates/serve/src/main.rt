@@ -82,7 +82,7 @@ fn store(stored: &mut [u8], image: &[u8], changed: bool) -> bool {
     if !save(image) {
         return false;
     }
-    live::keep(stored, image);
+    slices::copy(stored, image);
     true
 }
 
@@ -113,7 +113,7 @@ fn take_byte(u: Unit, image: &mut [u8], stored: &mut [u8], b: u8) -> Session {
             on: false,
         };
     }
-    let on = answer(live::front(&area, got.reply_len));
+    let on = answer(slices::first(&area, got.reply_len));
     Session { unit: next, on: on }
 }
 
@@ -176,7 +176,7 @@ fn run(image: &mut [u8], protection: u8) {
         return;
     }
     let mut stored = [0u8; flash::IMAGE];
-    live::keep(&mut stored, image);
+    slices::copy(&mut stored, image);
     let unit = started.unit;
     let begin = Session {
         unit: unit,

@@ -3,7 +3,7 @@ use Prim.Native.Nat.{ℕ, zero, suc, _<_}
 use native.Mathlib.Omega.{arith}
 use mathlib.Core.List.{List, [], _∷_}
 use lib.ListN.{take, getD, set, replicate}
-use Rattle.flash.specs.Lists.{Bytes}
+use Rattle.slices.specs.Lists.{Bytes}
 
 pub bytes-at : (xs : List ℕ) (i : ℕ) → Bytes xs → getD xs i 0 < 256
 bytes-at [] i h = omega arith

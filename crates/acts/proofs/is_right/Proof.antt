@@ -1,7 +1,7 @@
 -- `acts::is_right` meets its contract: the list that is compared is the right ID packet of the image, byte by byte.
 use mathlib.Core.Path.{ap, _∙_}
 use denote.Ref.{now}
-use Rattle.flash.specs.Lists.{same}
+use Rattle.slices.specs.Lists.{same}
 use Rattle.acts.proofs.IdLaws.{right-bytes}
 use borrow.Author.Needs.{needs}
 use Rattle.acts.proofs.is_right.Statement.{statement}

@@ -4,7 +4,7 @@ use mathlib.Core.List.{List}
 use Prim.Native.Nat.{ℕ}
 use denote.Ref.{now}
 use Rattle.protocol.specs.Endings.{pageReply}
-use Rattle.acts.specs.Clauses.{front}
+use Rattle.slices.specs.Lists.{front}
 use Rattle.acts.proofs.FrontLaws.{blank-shown, page-shown}
 use borrow.Author.Needs.{needs}
 use Rattle.acts.proofs.show_page.Statement.{statement}

@@ -5,7 +5,7 @@ use denote.Ref.{now}
 use lib.ListN.{length, getD}
 use Rattle.flash.specs.Blocks.{sized, find, holds, placeOf}
 use Rattle.flash.specs.Image.{isBlank, byteAt}
-use Rattle.flash.proofs.Lists.{and-true}
+use Rattle.slices.proofs.Lists.{and-true}
 use borrow.Author.Needs.{needs}
 use Rattle.flash.proofs.blank.Statement.{statement}
 use Rattle.flash.proofs.blank.Tie as tie

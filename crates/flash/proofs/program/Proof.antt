@@ -10,7 +10,7 @@ use denote.Ref.{now}
 use borrow.Author.Tests.{not-true, not-false}
 use Rattle.flash.specs.declared.Found.{Found}
 use Rattle.flash.specs.declared.Found.the-variants.{Inside}
-use Rattle.flash.specs.Lists.{same}
+use Rattle.slices.specs.Lists.{same}
 use Rattle.flash.specs.Blocks.{part, find, placeOf}
 use Rattle.flash.specs.Image.{written, permitted, burn, burnt}
 use Rattle.flash.proofs.Places.{rising, not-outside}

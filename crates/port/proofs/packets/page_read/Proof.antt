@@ -11,7 +11,7 @@ use Rattle.unit.specs.Phases.{need}
 use Rattle.unit.specs.Phases.Kind.{page-read}
 use Rattle.protocol.specs.Endings.{pageReply}
 use Rattle.protocol.proofs.Cases.{page-reply-long}
-use Rattle.acts.specs.Clauses.{front}
+use Rattle.slices.specs.Lists.{front}
 use Rattle.port.proofs.Answers.{took-nothing, took-there, front-fits}
 use Rattle.port.proofs.PacketLaws.{collects, finishes, page-shown}
 use borrow.Author.Needs.{needs}
