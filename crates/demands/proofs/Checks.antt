@@ -15,7 +15,7 @@ use Rattle.packets.specs.Readings.{Wrong}
 use Rattle.slices.specs.Lists.{Each, Bytes}
 use Rattle.flash.specs.Blocks.{find, holds, placeOf}
 use Rattle.flash.specs.Image.{byteAt}
-use Rattle.slices.proofs.Lists.{bytes-append}
+use Rattle.slices.proofs.Lists.{bytes-append, bytes-zeros}
 use Rattle.unit.specs.declared.Unit.{Unit as Port}
 use Rattle.unit.specs.declared.Registers.{Registers}
 use Rattle.unit.specs.declared.Phase.the-variants.{Awake}
@@ -23,7 +23,6 @@ use Rattle.unit.specs.declared.Place.the-variants.{Command, IdCheck}
 use Rattle.unit.specs.Phases.{need, commandOf}
 use Rattle.unit.specs.Phases.Kind.{id-check}
 use Rattle.unit.specs.Model.{noBytes, withRate, withSrd1, isOpen}
-use Rattle.unit.proofs.ByteLists.{bytes-zeros}
 use Rattle.unit.proofs.Ranged.{Sound, in-range, settings-open}
 use Rattle.protocol.specs.Outcome.{Outcome}
 use Rattle.protocol.specs.Step.{step, run}

@@ -9,13 +9,13 @@ use lib.ListN.{length}
 use borrow.Author.Tests.{eqb-true}
 use Rattle.flash.specs.Blocks.{part}
 use Rattle.flash.specs.Image.{byteAt, idAddresses, storedId}
-use Rattle.slices.proofs.Lists.{same-true, same-refl}
+use Rattle.slices.proofs.Lists.{and-both, same-true, same-refl}
 use Rattle.flash.proofs.Outcomes.{true-sized}
 use Rattle.unit.specs.declared.Unit.{Unit as Port}
 use Rattle.unit.specs.Model.{withSrd1, ended, isOpen}
 use Rattle.unit.specs.Phases.{positionOf}
 use Rattle.unit.specs.Range.{positionFits, registersFit, inRange}
-use Rattle.unit.proofs.Ranged.{and-both, settings-open}
+use Rattle.unit.proofs.Ranged.{settings-open}
 use Rattle.protocol.specs.Outcome.{quiet}
 use Rattle.protocol.specs.Endings.{rightId, isRight, judged, finished}
 use Rattle.protocol.specs.Step.{run}

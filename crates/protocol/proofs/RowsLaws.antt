@@ -8,6 +8,7 @@ use mathlib.Core.List.{List, [], _∷_, _++_, append-nil}
 use lib.ListN.{length, take, drop, getD, set}
 use lib.Seq.{length-take-le, take-all, take-suc, take-at}
 use borrow.Author.Tests.{ne-eqb, eq-eqb, ltb-true, lt-ltb}
+use Rattle.slices.proofs.Turns.{copy-one}
 use Rattle.unit.specs.declared.Unit.{Unit as Port}
 use Rattle.unit.specs.declared.Registers.{Registers}
 use Rattle.unit.specs.declared.Settings.{Settings}
@@ -86,13 +87,6 @@ some-needed block-erase xs = omega arith
 some-needed erase-all xs = omega arith
 some-needed id-check xs = omega arith
 
--- one byte more is stored
-stored-next : (xs got : List ℕ) (j : ℕ) → j < length xs → j < length got → set (take j xs ++ drop j got) j (getD xs j 0) ≡ take (suc j) xs ++ drop (suc j) got
-stored-next [] got j h s = absurd (omega arith)
-stored-next (x ∷ xs) [] j h s = absurd (omega arith)
-stored-next (x ∷ xs) (y ∷ got) zero h s = refl
-stored-next (x ∷ xs) (y ∷ got) (suc j) h s = ap (λ (l : List ℕ). x ∷ l) (stored-next xs got j (omega arith) (omega arith))
-
 -- an ending reads the unit's registers and settings alone
 ends-alike : (k : Kind) (v : Port) (f : Phase) (got img xs : List ℕ) → finished k v img xs ≡ finished k (whole (state f (v .registers)) (v .settings) got) img xs
 unfolding finished programs erases ended
@@ -131,7 +125,7 @@ module _ {u : Port} (ready : Ready u) (img : List ℕ) (k : Kind) (may : Taken u
         phase = longer-phase v k j b;
         registers = longer-registers v k j b ∙ p .registers;
         settings = longer-settings v k j b ∙ p .settings;
-        collected = longer-collected v k j b ∙ (ap (λ (l : List ℕ). set l j b) (p .collected) ∙ stored-next xs (u .collected) j (omega arith) (omega (arith, ready .room)));
+        collected = longer-collected v k j b ∙ (ap (λ (l : List ℕ). set l j b) (p .collected) ∙ copy-one xs (u .collected) j (omega arith) (omega (arith, ready .room)));
         image = refl;
         reply = append-nil (o .reply) ∙ p .reply;
       })

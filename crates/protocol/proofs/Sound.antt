@@ -8,6 +8,7 @@ use lib.ListN.{length}
 use lib.Dec.{ltb, eqb}
 use borrow.Author.Tests.{le-leb}
 use Rattle.slices.specs.Lists.{Bytes}
+use Rattle.slices.proofs.Lists.{both-and}
 use Rattle.flash.specs.Blocks.{part}
 use Rattle.flash.proofs.Changes.{length-program, length-eraseBlock, length-eraseAll}
 use Rattle.unit.specs.declared.Unit.{Unit as Port}
@@ -20,7 +21,7 @@ use Rattle.unit.specs.Phases.Kind.{page-read, page-program, unit-program, block
 use Rattle.unit.specs.Model.{withSrd, isOpen}
 use Rattle.unit.specs.Range.{registersFit, settingsFit, packetFits, positionFits}
 use Rattle.unit.proofs.Positions.{position-inside}
-use Rattle.unit.proofs.Ranged.{Sound, both-and, fit-srd, fit-srd1, fit-rate, settings-srd, settings-srd1, settings-rate}
+use Rattle.unit.proofs.Ranged.{Sound, fit-srd, fit-srd1, fit-rate, settings-srd, settings-srd1, settings-rate}
 use Rattle.unit.proofs.Builders.{phased-settings, ended-settings, sound-phased, sound-ended}
 use Rattle.unit.proofs.Inside.{longer-settings, sound-longer}
 use Rattle.protocol.specs.Outcome.{Outcome}

@@ -4,7 +4,7 @@ use native.Mathlib.Omega.{arith}
 use mathlib.Core.Bool.{Bool, true, false, cond, _&&_, false≢true}
 use mathlib.Core.Path.{_≡_, refl, ap, sym, _∙_}
 use mathlib.Core.List.{List, [], _∷_, _++_}
-use lib.ListN.{length, getD, take, drop, length-take, List·getD-append}
+use lib.ListN.{length, getD, set, take, drop, replicate, length-take, List·getD-append}
 use lib.Seq.{getD-take, getD-append-add}
 use lib.Dec.{eqb}
 use borrow.Author.Tests.{eqb-true, eq-eqb}
@@ -62,6 +62,15 @@ bytes-drop (suc n) (x ∷ xs) b = bytes-drop n xs (b .1)
 pub bytes-append : (xs ys : List ℕ) → Bytes xs → Bytes ys → Bytes (xs ++ ys)
 bytes-append [] ys b c = c
 bytes-append (x ∷ xs) ys b c = (b .0, bytes-append xs ys (b .1) c)
+
+pub bytes-set : (xs : List ℕ) (n b : ℕ) → Bytes xs → b < 256 → Bytes (set xs n b)
+bytes-set [] n b h small = tt
+bytes-set (x ∷ xs) zero b h small = (small, h .1)
+bytes-set (x ∷ xs) (suc n) b h small = (h .0, bytes-set xs n b (h .1) small)
+
+pub bytes-zeros : (n : ℕ) → Bytes (replicate n 0)
+bytes-zeros zero = tt
+bytes-zeros (suc n) = (omega arith, bytes-zeros n)
 
 pub getD-small : (xs : List ℕ) (j : ℕ) → Bytes xs → getD xs j 0 < 256
 getD-small [] j b = omega arith

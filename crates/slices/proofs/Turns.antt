@@ -41,7 +41,7 @@ same-long (x ∷ a) (y ∷ b) h =
     ap (λ (t : Bool). eqb x y && t) (same-long a b (λ e. h (ap suc e))) ∙ and-false (eqb x y)
 
 -- copying to the front, byte by byte
-copy-one : (s d : List ℕ) (i : ℕ) → i < length s → i < length d → set (take i s ++ drop i d) i (getD s i 0) ≡ take (suc i) s ++ drop (suc i) d
+pub copy-one : (s d : List ℕ) (i : ℕ) → i < length s → i < length d → set (take i s ++ drop i d) i (getD s i 0) ≡ take (suc i) s ++ drop (suc i) d
 copy-one [] d i h k = absurd (omega arith)
 copy-one (x ∷ s) [] i h k = absurd (omega arith)
 copy-one (x ∷ s) (y ∷ d) zero h k = refl

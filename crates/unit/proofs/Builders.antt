@@ -16,7 +16,7 @@ use Rattle.unit.specs.declared.Place.the-variants.{Command}
 use Rattle.unit.specs.Phases.{positionOf}
 use Rattle.unit.specs.Model.{noBytes, begun, fresh, idle, phased, ended, isOpen}
 use Rattle.unit.specs.Range.{positionFits, srdFits, srd1Fits, registersFit, settingsFit}
-use Rattle.unit.proofs.ByteLists.{bytes-zeros}
+use Rattle.slices.proofs.Lists.{bytes-zeros}
 use Rattle.unit.proofs.Ranged.{Sound, registers-together, settings-together}
 
 -- the unit in another phase

@@ -15,10 +15,10 @@ use Rattle.unit.specs.Phases.Kind.{page-read, page-program, unit-program
 use Rattle.unit.specs.Phases.Position.{within}
 use Rattle.unit.specs.Model.{longer, isOpen}
 use Rattle.unit.specs.Range.{packetFits, positionFits}
-use Rattle.unit.proofs.ByteLists.{bytes-take, bytes-set}
+use Rattle.slices.proofs.Lists.{bytes-take, bytes-set, and-both, both-and}
 use Rattle.unit.proofs.Lengths.{need-small, need-next}
 use Rattle.unit.proofs.Positions.{position-inside}
-use Rattle.unit.proofs.Ranged.{Sound, and-both, both-and}
+use Rattle.unit.proofs.Ranged.{Sound}
 
 -- the unit with one more byte of a packet
 module _ (u : Port) (k : Kind) (n b : ℕ) where

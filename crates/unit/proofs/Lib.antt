@@ -1,4 +1,3 @@
-pub mod ByteLists
 pub mod Lengths
 pub mod Positions
 pub mod Ranged

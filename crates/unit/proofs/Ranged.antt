@@ -1,11 +1,12 @@
 -- A unit in range, as facts; and its registers and settings, taken apart and put together, so that nothing else opens `registersFit` or `settingsFit`.
 use Prim.Native.Nat.{ℕ, _≤_}
-use mathlib.Core.Bool.{Bool, true, false, not, _&&_, _||_, false≢true}
+use mathlib.Core.Bool.{Bool, true, false, not, _&&_, _||_}
 use mathlib.Core.Path.{_≡_, refl, ap, sym, _∙_}
 use lib.ListN.{length}
 use lib.Dec.{eqb, leb}
 use borrow.Author.Tests.{leb-true, le-leb}
 use Rattle.slices.specs.Lists.{Bytes}
+use Rattle.slices.proofs.Lists.{and-both, both-and}
 use Rattle.unit.specs.declared.Unit.{Unit as Port}
 use Rattle.unit.specs.declared.Registers.{Registers}
 use Rattle.unit.specs.declared.Settings.{Settings}
@@ -21,14 +22,6 @@ pub record Sound (u : Port) : Type 0 where
   pub settings : settingsFit (u .settings) (u .registers) ≡ true
   pub room : length (u .collected) ≡ 259
   pub bytes : Bytes (u .collected)
-
-pub and-both : (a b : Bool) → (a && b) ≡ true → (a ≡ true) × (b ≡ true)
-and-both true b e = (refl, e)
-and-both false b e = absurd (false≢true e)
-
-pub both-and : (a b : Bool) → a ≡ true → b ≡ true → (a && b) ≡ true
-both-and true b e f = f
-both-and false b e f = e
 
 pub sound : (u : Port) → inRange u ≡ true → length (u .collected) ≡ 259 → Bytes (u .collected) → Sound u
 unfolding inRange

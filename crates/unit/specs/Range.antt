@@ -1,7 +1,7 @@
 -- Document 01, "The unit": which unit records are in range.
 use Prim.Native.Nat.{ℕ}
 use mathlib.Core.Bool.{Bool, true, not, _&&_, _||_}
-use mathlib.Core.List.{List}
+use mathlib.Core.List.{List, [], _∷_}
 use lib.ListN.{take}
 use lib.Dec.{ltb, leb, eqb}
 use Rattle.unit.specs.declared.Unit.{Unit as Port}
@@ -20,6 +20,10 @@ unfoldable pub positionFits : Position → Bool → List ℕ → Bool
 positionFits (sleeping n) opened got = leb n 16
 positionFits commanding opened got = true
 positionFits (within k n) opened got = packetFits k n opened got
+
+-- collected bytes of which only the size is known: all that a position asks of them
+abbrev pub sizeAlone : ℕ → List ℕ
+sizeAlone size = 0 ∷ 0 ∷ 0 ∷ size ∷ []
 
 unfoldable pub srdFits : ℕ → Bool
 srdFits s = eqb s 0x80 || (eqb s 0x90 || (eqb s 0xA0 || eqb s 0xB0))

@@ -1,12 +1,9 @@
 // The unit of document 01: its phase, registers, settings and collected bytes; how it begins; which records are in range.
 ghost use mathlib.Core.Path.{_≡_};
-ghost use mathlib.Core.List.{List};
-ghost use Prim.Native.Nat.{ℕ};
-ghost use lib.ListN.{getD};
 ghost use Rattle.unit.specs.declared.Phase.the-variants.{Awake};
 ghost use Rattle.unit.specs.Phases.{positionOf};
 ghost use Rattle.unit.specs.Model.{begun};
-ghost use Rattle.unit.specs.Range.{positionFits, srdFits, srd1Fits, registersFit, settingsFit};
+ghost use Rattle.unit.specs.Range.{positionFits, sizeAlone, srdFits, srd1Fits, registersFit, settingsFit};
 ghost use Rattle.unit.specs.Clauses.{FreshEnsures, IdleEnsures, OfEnsures, StateEnsures, InRangeEnsures, AtEnsures, AtCommandEnsures, WithSrdEnsures, WithSrd1Ensures, WithRateEnsures, IsOpenEnsures, IsStandingEnsures};
 
 // Awake at a command, or inside a packet: which one, and how many bytes have come since its command.
@@ -266,9 +263,9 @@ impl Settings {
     }
 }
 
-// The phase of a unit that is open or not, and whose fourth collected byte is `size`.
+// The phase of a unit that is open or not, and whose fourth collected byte is `size`: no other collected byte matters.
 fn phase_fits(phase: Phase, opened: bool, size: u8) -> bool
-    ensures { λ r. ⌜ ((got : List ℕ) → getD got 3 0 ≡ size → r ≡ positionFits (positionOf phase) opened got) ⌝ }
+    ensures { λ r. ⌜ r ≡ positionFits (positionOf phase) opened (sizeAlone size) ⌝ }
 {
     match phase {
         Phase::Asleep(n) => n <= Unit::ZEROS,
@@ -277,7 +274,7 @@ fn phase_fits(phase: Phase, opened: bool, size: u8) -> bool
 }
 
 fn place_fits(place: Place, opened: bool, size: u8) -> bool
-    ensures { λ r. ⌜ ((got : List ℕ) → getD got 3 0 ≡ size → r ≡ positionFits (positionOf (Awake place)) opened got) ⌝ }
+    ensures { λ r. ⌜ r ≡ positionFits (positionOf (Awake place)) opened (sizeAlone size) ⌝ }
 {
     match place {
         Place::Command => true,

@@ -15,10 +15,10 @@ place-fits-requires c κs = search needs
 
 returns : tie.Need-returns
 unfolding positionFits
-returns c got e = rw (c .before .phase .given .1)
+returns c = rw (c .before .phase .given .1)
 
 returns-2 : tie.Need-returns-2
-returns-2 c got e = rw (c .before .before .phase2 .given .1) (c .place-fits .ensures got e)
+returns-2 c = rw (c .before .before .phase2 .given .1) (c .place-fits .ensures)
 
 pub phase-fits-spec : {M : Type 1} → statement M
 phase-fits-spec =

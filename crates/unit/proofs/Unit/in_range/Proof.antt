@@ -1,7 +1,8 @@
--- `unit::Unit::in_range` meets its contract: each operand of the code's `&&` is the definition's operand, by what the callees ensure; the fourth collected byte is all that `phase_fits` asks of the collected ones.
-use mathlib.Core.Path.{refl, sym, _∙_}
+-- `unit::Unit::in_range` meets its contract: each operand of the code's `&&` is the definition's operand, by what the callees ensure; of the collected bytes a position asks for the size alone (`size-decides`).
+use mathlib.Core.Path.{sym, _∙_}
 use borrow.Author.Needs.{needs}
 use Rattle.unit.specs.Range.{inRange}
+use Rattle.unit.proofs.Lengths.{size-decides}
 use Rattle.unit.proofs.Unit.in_range.Statement.{statement}
 use Rattle.unit.proofs.Unit.in_range.Tie as tie
 
@@ -26,7 +27,7 @@ returns c =
     let p = c .before .before .before .before in
     let u = p .before .before .before .before .before .args .self in
     c .fit2 .ensures
-    ∙ simp (sym (p .before .is-open .ensures), sym (p .phase-fits .ensures (u .collected) refl) ∙ c .before .before .before .if1 .taken, sym (c .before .before .fit .ensures) ∙ c .before .if2 .taken)
+    ∙ simp (sym (p .before .is-open .ensures), size-decides _ _ (u .collected) ∙ sym (p .phase-fits .ensures) ∙ c .before .before .before .if1 .taken, sym (c .before .before .fit .ensures) ∙ c .before .if2 .taken)
 
 returns-2 : tie.Need-returns-2
 unfolding inRange
@@ -34,7 +35,7 @@ returns-2 c =
     let p = c .before .before .before in
     let u = p .before .before .before .before .before .args .self in
     c .if2 .left
-    ∙ simp (sym (p .before .is-open .ensures), sym (p .phase-fits .ensures (u .collected) refl) ∙ c .before .before .if1 .taken, sym (c .before .fit .ensures) ∙ c .if2 .left)
+    ∙ simp (sym (p .before .is-open .ensures), size-decides _ _ (u .collected) ∙ sym (p .phase-fits .ensures) ∙ c .before .before .if1 .taken, sym (c .before .fit .ensures) ∙ c .if2 .left)
 
 returns-3 : tie.Need-returns-3
 unfolding inRange
@@ -42,7 +43,7 @@ returns-3 c =
     let p = c .before in
     let u = p .before .before .before .before .before .args .self in
     c .if1 .left
-    ∙ simp (sym (p .before .is-open .ensures), sym (p .phase-fits .ensures (u .collected) refl) ∙ c .if1 .left)
+    ∙ simp (sym (p .before .is-open .ensures), size-decides _ _ (u .collected) ∙ sym (p .phase-fits .ensures) ∙ c .if1 .left)
 
 pub in-range-spec : {M : Type 1} → statement M
 in-range-spec =
