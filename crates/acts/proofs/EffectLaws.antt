@@ -12,43 +12,51 @@ use Rattle.flash.specs.Image.{Written, written, program}
 use Rattle.unit.specs.declared.State.{State}
 use Rattle.unit.specs.declared.Settings.{Settings}
 use Rattle.unit.specs.declared.Registers.{Registers}
-use Rattle.unit.specs.Model.{whole, commanded, withSrd, noBytes, ended, standing}
-use Rattle.protocol.specs.Outcome.{quiet}
+use Rattle.unit.specs.Model.{whole, withSrd, ended, standing}
+use Rattle.protocol.specs.Outcome.{Outcome}
 use Rattle.protocol.specs.Endings.{reaching, programs, erases}
-use Rattle.acts.specs.Clauses.{carries, unconfirmed}
+use Rattle.acts.specs.Clauses.{afterPacket, carries, unconfirmed}
 
 module _ (s : State) (t : Settings) (got img : List ℕ) where
   -- a program, where an error stands and where none does
-  pub program-stands : (w : Written) → standing (s .registers) ≡ true → programs (whole s t got) img w ≡ quiet (whole (commanded (s .registers)) t noBytes) img
+  pub program-stands : (w : Written) → standing (s .registers) ≡ true → programs (whole s t got) img w ≡ afterPacket t (s .registers) img
   unfolding programs ended
   program-stands w e = rw e
 
   pub program-reports : (w : Written) → standing (s .registers) ≡ false
-      → programs (whole s t got) img w ≡ quiet (whole (commanded (withSrd (s .registers) (cond (w .good) 0x80 0x90))) t noBytes) (w .image)
+      → programs (whole s t got) img w ≡ afterPacket t (withSrd (s .registers) (cond (w .good) 0x80 0x90)) (w .image)
   unfolding programs ended
   program-reports w e = rw e
 
-  -- an erase, where it is carried out and where it is not
+  -- an erase by its tests: the confirm byte is FF, an error stands, the confirm byte is D0
+  abbrev byTests : Written → Bool → Bool → Bool → Outcome
+  byTests w f z d =
+      cond f (afterPacket t (s .registers) img)
+      (cond z (afterPacket t (s .registers) img)
+      (cond (not d) (afterPacket t (withSrd (s .registers) 0xB0) img)
+      (afterPacket t (withSrd (s .registers) (cond (w .good) 0x80 0xA0)) (w .image))))
+
+  -- where it is carried out and where it is not
   pub erase-reports : (confirm : ℕ) (w : Written) → carries (s .registers) confirm ≡ true
-      → erases (whole s t got) img confirm w ≡ quiet (whole (commanded (withSrd (s .registers) (cond (w .good) 0x80 0xA0))) t noBytes) (w .image)
+      → erases (whole s t got) img confirm w ≡ afterPacket t (withSrd (s .registers) (cond (w .good) 0x80 0xA0)) (w .image)
   unfolding erases ended carries
   erase-reports confirm w = go (eqb confirm 0xD0) (standing (s .registers)) refl
     where
       go : (d z : Bool) → eqb confirm 0xD0 ≡ d → (d && not z) ≡ true
-          → cond (eqb confirm 0xFF) (quiet (ended (whole s t got) (s .registers)) img) (cond z (quiet (ended (whole s t got) (s .registers)) img) (cond (not d) (quiet (ended (whole s t got) (withSrd (s .registers) 0xB0)) img) (quiet (ended (whole s t got) (withSrd (s .registers) (cond (w .good) 0x80 0xA0))) (w .image))))
-          ≡ quiet (whole (commanded (withSrd (s .registers) (cond (w .good) 0x80 0xA0))) t noBytes) (w .image)
+          → byTests w (eqb confirm 0xFF) z d
+          ≡ afterPacket t (withSrd (s .registers) (cond (w .good) 0x80 0xA0)) (w .image)
       go true false d e = rw (eqb-true confirm 0xD0 d)
       go true true d e = absurd (false≢true e)
       go false z d e = absurd (false≢true e)
 
   pub erase-stays : (confirm : ℕ) (w : Written) → carries (s .registers) confirm ≡ false
-      → erases (whole s t got) img confirm w ≡ quiet (whole (commanded (unconfirmed (s .registers) confirm)) t noBytes) img
+      → erases (whole s t got) img confirm w ≡ afterPacket t (unconfirmed (s .registers) confirm) img
   unfolding erases ended carries unconfirmed
   erase-stays confirm w = go (eqb confirm 0xFF) (standing (s .registers)) (eqb confirm 0xD0)
     where
       go : (f z d : Bool) → (d && not z) ≡ false
-          → cond f (quiet (ended (whole s t got) (s .registers)) img) (cond z (quiet (ended (whole s t got) (s .registers)) img) (cond (not d) (quiet (ended (whole s t got) (withSrd (s .registers) 0xB0)) img) (quiet (ended (whole s t got) (withSrd (s .registers) (cond (w .good) 0x80 0xA0))) (w .image))))
-          ≡ quiet (whole (commanded (cond f (s .registers) (cond z (s .registers) (withSrd (s .registers) 0xB0)))) t noBytes) img
+          → byTests w f z d
+          ≡ afterPacket t (cond f (s .registers) (cond z (s .registers) (withSrd (s .registers) 0xB0))) img
       go true z d e = refl
       go false true d e = refl
       go false false false e = refl

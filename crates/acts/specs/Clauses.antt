@@ -10,13 +10,13 @@ use Rattle.flash.specs.Image.{written, pagePart, eraseBlock, eraseAll}
 use Rattle.unit.specs.declared.Registers.{Registers}
 use Rattle.unit.specs.declared.Settings.{Settings}
 use Rattle.unit.specs.declared.State.{State}
-use Rattle.unit.specs.Model.{whole, commanded, noBytes, withSrd, withSrd1, standing}
+use Rattle.unit.specs.Model.{whole, atCommand, noBytes, withSrd, withSrd1, standing}
 use Rattle.protocol.specs.Outcome.{Outcome, quiet}
 use Rattle.protocol.specs.Endings.{pageReply, reaching, programs, erases, judged}
 
 -- the packet has ended: the unit is at a command with these registers, nothing is collected, and this is its image
 abbrev pub afterPacket : Settings → Registers → List ℕ → Outcome
-afterPacket t r img = quiet (whole (commanded r) t noBytes) img
+afterPacket t r img = quiet (whole (atCommand r) t noBytes) img
 
 -- a program of these bytes from this address on leaves those registers and that image to any unit with the state s, whatever it has collected
 abbrev pub ProgramEnsures : State → Settings → List ℕ → ℕ → List ℕ → ℕ → Registers → List ℕ → Type 0

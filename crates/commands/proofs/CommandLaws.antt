@@ -10,7 +10,7 @@ use Rattle.unit.specs.declared.Settings.{Settings}
 use Rattle.unit.specs.declared.Phase.the-variants.{Asleep, Awake}
 use Rattle.unit.specs.declared.Place.the-variants.{Command}
 use Rattle.unit.specs.Phases.{Kind, inside}
-use Rattle.unit.specs.Model.{whole, state, commanded as atCommand, withSrd, noBytes, phased, ended, isOpen}
+use Rattle.unit.specs.Model.{whole, state, atCommand, withSrd, noBytes, phased, ended, isOpen}
 use Rattle.protocol.specs.Outcome.{says, quiet}
 use Rattle.protocol.specs.Commands.{Command as Meaning, begin, clear, unknown, commands, lookup, meaning, needsOpen, effect, dropped, commanded}
 use Rattle.protocol.specs.Step.{wakes, asleep}
@@ -28,17 +28,13 @@ module _ (s : State) (t : Settings) (got img : List ℕ) (n b : ℕ) where
       let m : min 16 (suc n) ≡ 16 = omega arith in
       simp (eq-eqb b 0 e) (ap (λ (k : ℕ). quiet (whole (state (Asleep k) (s .registers)) t got) img) m)
 
-  pub wakened : b ≡ 0xB0 → n ≡ 16 → asleep n (whole s t got) img b ≡ says (whole (state (Awake Command) (s .registers)) t got) img (0xB0 ∷ [])
-  unfolding asleep wakes phased
-  wakened e f = rw (e, f)
+  pub wakened : (b ≡ 0 → ⊥) → wakes n b ≡ true → asleep n (whole s t got) img b ≡ says (whole (state (Awake Command) (s .registers)) t got) img (0xB0 ∷ [])
+  unfolding asleep phased
+  wakened e f = rw (ne-eqb b 0 e, f)
 
-  pub too-early : b ≡ 0xB0 → (n ≡ 16 → ⊥) → asleep n (whole s t got) img b ≡ quiet (whole (state (Asleep 0) (s .registers)) t got) img
-  unfolding asleep wakes phased
-  too-early e f = rw (e, ne-eqb n 16 f)
-
-  pub reset : (b ≡ 0 → ⊥) → (b ≡ 0xB0 → ⊥) → asleep n (whole s t got) img b ≡ quiet (whole (state (Asleep 0) (s .registers)) t got) img
-  unfolding asleep wakes phased
-  reset e f = simp (ne-eqb b 0 e, ne-eqb b 0xB0 f)
+  pub reset : (b ≡ 0 → ⊥) → wakes n b ≡ false → asleep n (whole s t got) img b ≡ quiet (whole (state (Asleep 0) (s .registers)) t got) img
+  unfolding asleep phased
+  reset e f = rw (ne-eqb b 0 e, f)
 
 -- a byte that is none of a table's, as the last arm of a `match` has it
 abbrev pub NoneOf : ℕ → Type 0 → List (ℕ × Meaning) → Type 0

@@ -12,6 +12,7 @@ ghost use Rattle.unit.specs.declared.Phase.the-variants.{Awake};
 ghost use Rattle.unit.specs.Model.{whole, state, isOpen, noBytes};
 ghost use Rattle.protocol.specs.Commands.{Command, effect, commanded};
 ghost use Rattle.protocol.specs.Commands.Command.{clear, status, version, time};
+ghost use Rattle.protocol.specs.Step.{wakes};
 ghost use Rattle.commands.specs.Clauses.{said, counted, quietly, AsleepEnsures, CommandedEnsures};
 
 // What such a byte leads to: the state, and the first `len` bytes of `reply`.
@@ -38,6 +39,13 @@ fn quiet(state: State) -> Said
     }
 }
 
+// B0, with sixteen zeros counted.
+fn is_waking(n: u8, b: u8) -> bool
+    ensures { λ r. ⌜ r ≡ wakes n b ⌝ }
+{
+    b == Unit::WAKE && n == Unit::ZEROS
+}
+
 // Asleep, with n zeros counted.
 pub fn asleep(s: State, n: u8, b: u8) -> Said
     ensures { λ r. ⌜ AsleepEnsures s n b r ⌝ }
@@ -48,15 +56,12 @@ pub fn asleep(s: State, n: u8, b: u8) -> Said
         }
         return quiet(s.at(Phase::Asleep(Unit::ZEROS)));
     }
-    if b == Unit::WAKE {
-        if n == Unit::ZEROS {
-            return Said {
-                state: s.at(Phase::Awake(Place::Command)),
-                reply: [Unit::WAKE, 0, 0, 0, 0, 0, 0, 0],
-                len: 1,
-            };
-        }
-        return quiet(s.at(Phase::Asleep(0)));
+    if is_waking(n, b) {
+        return Said {
+            state: s.at(Phase::Awake(Place::Command)),
+            reply: [Unit::WAKE, 0, 0, 0, 0, 0, 0, 0],
+            len: 1,
+        };
     }
     quiet(s.at(Phase::Asleep(0)))
 }

@@ -17,8 +17,9 @@ use Rattle.unit.specs.declared.Registers.{Registers}
 use Rattle.unit.specs.declared.Phase.the-variants.{Awake}
 use Rattle.unit.specs.Phases.{Kind, inside, need}
 use Rattle.unit.specs.Phases.Kind.{page-read, page-program, unit-program, block-erase, erase-all, id-check}
-use Rattle.unit.specs.Model.{whole, state, commanded, withSrd1, noBytes, longer, ended}
+use Rattle.unit.specs.Model.{whole, state, atCommand, withSrd1, noBytes, longer, ended}
 use Rattle.unit.proofs.Lengths.{need-next}
+use Rattle.acts.specs.Clauses.{afterPacket}
 use Rattle.protocol.specs.Outcome.{says, quiet}
 use Rattle.protocol.specs.Endings.{pageReply, reaching, bankEnd, programmedBy, programs, erases, judged, finished}
 use Rattle.protocol.specs.Step.{body, completes, inPacket}
@@ -85,7 +86,7 @@ drop-take (suc k) (suc m) (x ∷ l) = drop-take k m l ∙ ap (λ (n : ℕ). take
 
 module _ (s : State) (t : Settings) (got img : List ℕ) where
   -- what has been collected, by its places
-  pub page-shown : (xs : List ℕ) → finished page-read (whole s t got) img (take 2 xs) ≡ says (whole (commanded (s .registers)) t noBytes) img (pageReply (pagePart part img (getD xs 0 0) (getD xs 1 0)))
+  pub page-shown : (xs : List ℕ) → finished page-read (whole s t got) img (take 2 xs) ≡ says (whole (atCommand (s .registers)) t noBytes) img (pageReply (pagePart part img (getD xs 0 0) (getD xs 1 0)))
   unfolding finished ended
   page-shown xs = rw (getD-take 2 xs 0 0 (omega arith), getD-take 2 xs 1 0 (omega arith))
 
@@ -110,6 +111,6 @@ module _ (s : State) (t : Settings) (got img : List ℕ) where
   all-erased n b e = rw e
 
   -- an ID check
-  pub checked : (xs : List ℕ) (r : Registers) → r ≡ withSrd1 (s .registers) (judged (t .blank) img xs) → finished id-check (whole s t got) img xs ≡ quiet (whole (commanded r) t noBytes) img
+  pub checked : (xs : List ℕ) (r : Registers) → r ≡ withSrd1 (s .registers) (judged (t .blank) img xs) → finished id-check (whole s t got) img xs ≡ afterPacket t r img
   unfolding finished ended
   checked xs r e = rw e

@@ -11,7 +11,7 @@ pub fn first(bytes: &[u8], n: usize) -> &[u8]
     if n < bytes.len() { &bytes[..n] } else { bytes }
 }
 
-// Two lists of bytes are the same. No early end: the loop is then a few wide instructions, and its time does not tell where two lists part.
+// Two lists of bytes are the same. No early end: the loop is then a few wide instructions.
 pub fn is_same(a: &[u8], b: &[u8]) -> bool
     ensures { λ r. ⌜ r ≡ same (now (a .entry)) (now (b .entry)) ⌝ }
 {

@@ -9,7 +9,7 @@ use Rattle.unit.specs.declared.Settings.{Settings}
 use Rattle.unit.specs.declared.State.{State}
 use Rattle.unit.specs.declared.Inputs.{Inputs}
 use Rattle.unit.specs.declared.Phase.{Phase}
-use Rattle.unit.specs.Model.{fresh, idle, whole, stateOf, state, commanded, withSrd, withSrd1, withRate, isOpen, standing}
+use Rattle.unit.specs.Model.{fresh, idle, whole, stateOf, state, atCommand, withSrd, withSrd1, withRate, isOpen, standing}
 use Rattle.unit.specs.Range.{inRange}
 
 abbrev pub FreshEnsures : List ℕ → Inputs → Port → Type 0
@@ -31,7 +31,7 @@ abbrev pub AtEnsures : State → Phase → State → Type 0
 AtEnsures s phase r = r ≡ state phase (s .registers)
 
 abbrev pub AtCommandEnsures : Registers → State → Type 0
-AtCommandEnsures registers r = r ≡ commanded registers
+AtCommandEnsures registers r = r ≡ atCommand registers
 
 abbrev pub WithSrdEnsures : Registers → ℕ → Registers → Type 0
 WithSrdEnsures registers srd r = r ≡ withSrd registers srd

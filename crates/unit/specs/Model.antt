@@ -54,8 +54,8 @@ abbrev pub state : Phase → Registers → State
 state f r = record { phase = f; registers = r }
 
 -- at a command, with these registers
-abbrev pub commanded : Registers → State
-commanded r = state (Awake Command) r
+abbrev pub atCommand : Registers → State
+atCommand r = state (Awake Command) r
 
 abbrev pub withSrd : Registers → ℕ → Registers
 withSrd r s = record { srd = s; srd1 = r .srd1; rate = r .rate }
@@ -76,7 +76,7 @@ longer u k n b = whole (state (Awake (inside k (suc n))) (u .registers)) (u .set
 
 -- the unit at the end of a taken packet: at a command, with these registers, and nothing collected
 unfoldable pub ended : Port → Registers → Port
-ended u r = whole (commanded r) (u .settings) noBytes
+ended u r = whole (atCommand r) (u .settings) noBytes
 
 -- the unit is open
 unfoldable pub isOpen : Registers → Bool

@@ -1,6 +1,6 @@
--- `commands::asleep` meets its contract: each answer is its case of `asleep`: a zero counted, a zero past sixteen, waking, a B0 too early, and any other byte.
-use mathlib.Core.Path.{ap, sym}
-use Rattle.commands.proofs.CommandLaws.{zero-counted, zero-past-sixteen, wakened, too-early, reset}
+-- `commands::asleep` meets its contract: each answer is its case of `asleep`: a zero counted, a zero past sixteen, waking, and any other byte.
+use mathlib.Core.Path.{ap, sym, _∙_}
+use Rattle.commands.proofs.CommandLaws.{zero-counted, zero-past-sixteen, wakened, reset}
 use Rattle.commands.specs.Clauses.{counted}
 use borrow.Author.Needs.{needs}
 use Rattle.commands.proofs.asleep.Statement.{statement}
@@ -31,13 +31,17 @@ returns-2 c t got img =
     rw (c .quiet2 .ensures, c .before .at2 .ensures)
     (sym (ap counted (zero-past-sixteen _ t got img _ _ (c .before .before .before .if1 .taken) (c .before .before .if2 .left))))
 
+is-waking-requires : tie.Need-is-waking-requires
+is-waking-requires c κs = search needs
+
 at-requires-3 : tie.Need-at-requires-3
 at-requires-3 c κs = search needs
 
 returns-3 : tie.Need-returns-3
 returns-3 c t got img =
+    let k = c .before .before in
     rw (c .at3 .ensures)
-    (sym (ap counted (wakened _ t got img _ _ (c .before .before .if3 .taken) (c .before .if4 .taken))))
+    (sym (ap counted (wakened _ t got img _ _ (k .before .if1 .left) (sym (k .is-waking .ensures) ∙ c .before .if3 .taken))))
 
 at-requires-4 : tie.Need-at-requires-4
 at-requires-4 c κs = search needs
@@ -47,19 +51,9 @@ quiet-requires-3 c κs = search needs
 
 returns-4 : tie.Need-returns-4
 returns-4 c t got img =
+    let k = c .before .before .before in
     rw (c .quiet3 .ensures, c .before .at4 .ensures)
-    (sym (ap counted (too-early _ t got img _ _ (c .before .before .before .if3 .taken) (c .before .before .if4 .left))))
-
-at-requires-5 : tie.Need-at-requires-5
-at-requires-5 c κs = search needs
-
-quiet-requires-4 : tie.Need-quiet-requires-4
-quiet-requires-4 c κs = search needs
-
-returns-5 : tie.Need-returns-5
-returns-5 c t got img =
-    rw (c .quiet4 .ensures, c .before .at5 .ensures)
-    (sym (ap counted (reset _ t got img _ _ (c .before .before .before .if1 .left) (c .before .before .if3 .left))))
+    (sym (ap counted (reset _ t got img _ _ (k .before .if1 .left) (sym (k .is-waking .ensures) ∙ c .before .before .if3 .left))))
 
 pub asleep-spec : {M : Type 1} → statement M
 asleep-spec =
@@ -72,11 +66,9 @@ asleep-spec =
     at-requires-2
     quiet-requires-2
     returns-2
+    is-waking-requires
     at-requires-3
     returns-3
     at-requires-4
     quiet-requires-3
-    returns-4
-    at-requires-5
-    quiet-requires-4
-    returns-5)
+    returns-4)
