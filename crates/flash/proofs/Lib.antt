@@ -1,4 +1,5 @@
 pub mod Places
+pub mod Split
 pub mod Permits
 pub mod Turns
 pub mod Outcomes

@@ -1,16 +1,16 @@
 -- Addresses, places and blocks of any part whose blocks rise: block i holds an address exactly where `find` says so, and the places of a part are its bytes in the order of their addresses.
 use Prim.Native.Nat.{ℕ, zero, suc, _+_, _-_, _%_, _≤_, _<_}
 use native.Mathlib.Omega.{arith}
-use mathlib.Core.Bool.{Bool, true, false, cond, _&&_, false≢true}
+use mathlib.Core.Bool.{Bool, true, false, cond, false≢true}
 use mathlib.Core.Path.{_≡_, refl, ap, sym, _∙_, subst, subst⁻¹}
 use mathlib.Core.List.{List, [], _∷_}
 use lib.ListN.{length}
 use lib.Dec.{ltb, leb}
 use native.Mathlib.Decide.{decLt}
-use borrow.Author.Tests.{ltb-true, leb-true, lt-ltb, le-leb, lt-leb}
+use borrow.Author.Tests.{ltb-true, leb-true, lt-ltb, le-leb}
 use Rattle.flash.specs.declared.Found.{Found}
 use Rattle.flash.specs.declared.Found.the-variants.{Inside, Outside}
-use Rattle.flash.specs.Blocks.{Block, block, part, Rising, imageSize, holds, findFrom, find, blockFrom, blockSize}
+use Rattle.flash.specs.Blocks.{Block, part, Rising, imageSize, holds, findFrom, find, blockFrom, blockSize}
 use Rattle.slices.proofs.Lists.{and-both, both-and, cond-elim}
 
 pub rising : Rising 0 part
@@ -58,16 +58,7 @@ find-cons : (b : Block) (bs : List Block) (a : ℕ) → find (b ∷ bs) a ≡ co
 unfolding find
 find-cons b bs a = ap (λ (w : Found). cond (holds b a) (Inside 0 (0 + (a - b .address))) w) (find-shift 1 (0 + b .size) bs a)
 
--- an address from the block's first on, and one before it
-pub held-from : (f n a : ℕ) → f ≤ a → ltb a (f + n) ≡ holds (block f n) a
-unfolding holds
-held-from f n a h = sym (ap (λ (t : Bool). t && ltb a (f + n)) (le-leb f a h))
-
-pub not-held : (f n a : ℕ) → a < f → false ≡ holds (block f n) a
-unfolding holds
-not-held f n a h = sym (ap (λ (t : Bool). t && ltb a (f + n)) (lt-leb f a h))
-
-pub holds-within : (b : Block) (a : ℕ) → holds b a ≡ true → (b .address ≤ a) × (a < b .address + b .size)
+holds-within : (b : Block) (a : ℕ) → holds b a ≡ true → (b .address ≤ a) × (a < b .address + b .size)
 unfolding holds
 holds-within b a e =
     let t = and-both (leb (b .address) a) (ltb a (b .address + b .size)) e in

@@ -3,7 +3,7 @@ ghost use mathlib.Core.Path.{_≡_};
 ghost use Prim.Native.Nat.{_+_, _≤_, _<_};
 ghost use lib.ListN.{length};
 ghost use Rattle.slices.specs.Lists.{same};
-ghost use Rattle.flash.specs.Blocks.{block, part, holds, find, guarded, free, blockFrom, blockSize};
+ghost use Rattle.flash.specs.Blocks.{part, find, guarded, free, blockFrom, blockSize};
 ghost use Rattle.flash.specs.Image.{burn, freeFrom, permitted, erased, wiped, wipedFree};
 ghost use Rattle.flash.specs.Clauses.{BlockOfEnsures, PageAddressEnsures, PageEnsures, IdEnsures, BlankEnsures, ProgramEnsures, EraseEnsures, EraseAllEnsures};
 
@@ -19,33 +19,28 @@ pub const PAGE: usize = 256;
 
 const BLOCKS: usize = 4;
 
-fn held(from: u32, size: u32, address: u32) -> bool
-    requires { ⌜ from + size ≤ 65536 ⌝ }
-    ensures { λ r. ⌜ r ≡ holds (block from size) address ⌝ }
-{
-    if from <= address {
-        return address < from + size;
-    }
-    false
-}
-
-// The block of an address and the place in the image: each block is asked in turn.
+// The block of an address and the place in the image, from the page number: low flash is pages 20 to 2F, blocks of 8 pages, and high flash
+// pages C0 to FF, blocks of 32. In each, what adjoins in the memory adjoins in the image.
 pub fn block_of(address: u32) -> Found
     ensures { λ r. ⌜ BlockOfEnsures address r ⌝ }
 {
-    if held(0x2000, 2048, address) {
-        return Found::Inside(0, (address - 0x2000) as usize);
+    let page = address / 256;
+    if page < 0xC0 {
+        if page < 0x20 {
+            return Found::Outside;
+        }
+        if 0x2F < page {
+            return Found::Outside;
+        }
+        return Found::Inside(((page - 0x20) / 8) as usize, (address - 0x2000) as usize);
     }
-    if held(0x2800, 2048, address) {
-        return Found::Inside(1, 2048 + (address - 0x2800) as usize);
+    if 0xFF < page {
+        return Found::Outside;
     }
-    if held(0xC000, 8192, address) {
-        return Found::Inside(2, 4096 + (address - 0xC000) as usize);
-    }
-    if held(0xE000, 8192, address) {
-        return Found::Inside(3, 12288 + (address - 0xE000) as usize);
-    }
-    Found::Outside
+    Found::Inside(
+        2 + ((page - 0xC0) / 32) as usize,
+        4096 + (address - 0xC000) as usize,
+    )
 }
 
 // The first address of a page: its low byte is 00.
