@@ -1,43 +1,49 @@
--- The part as two regions: low flash, 02000 to 02FFF, is blocks 0 and 1 of 2048 bytes each, high flash, 0C000 to 0FFFF, blocks 2 and 3 of 8192, and no other address is in a block. In each region the blocks adjoin, in the memory and in the image alike.
+-- The part as two regions: low flash, 02000 to 02FFF, is blocks 0 and 1, and high flash, 0C000 to 0FFFF, is blocks 2 and 3. In each the two blocks are of one size and adjoin, in the memory and in the image alike. An address of neither is in no block.
 use Prim.Native.Nat.{ℕ, zero, suc, _+_, _-_, _*_, _≤_, _<_}
 use native.Mathlib.Omega.{arith}
-use mathlib.Core.Logic.{_⊎_, inl, inr, ⊎-elim}
 use mathlib.Core.Path.{_≡_, refl, sym}
+use lib.ListN.{length}
 use Rattle.flash.specs.declared.Found.{Found}
 use Rattle.flash.specs.declared.Found.the-variants.{Inside, Outside}
-use Rattle.flash.specs.Blocks.{part, find}
-use Rattle.flash.proofs.Places.{Lies, rising, lies, found}
+use Rattle.flash.specs.Blocks.{part, find, blockFrom, blockSize}
+use Rattle.flash.proofs.Places.{Lies, blockAddress, rising, lies, found}
 
--- an address between the bounds of block n of low flash is in that block
-pub in-low : (a n k : ℕ) → n < 2 → 0x2000 + n * 2048 ≤ a → a < 0x2000 + n * 2048 + 2048 → k ≡ a - 0x2000 → Inside n k ≡ find part a
-in-low a zero k h p q e =
-    sym (lies 0 part rising a 0 k (record { number = omega arith; from = omega arith; under = omega arith; place = omega arith }))
-in-low a (suc zero) k h p q e =
-    sym (lies 0 part rising a 1 k (record { number = omega arith; from = omega arith; under = omega arith; place = omega arith }))
-in-low a (suc (suc n)) k h p q e = absurd (omega arith)
+-- blocks i and i + 1 are m bytes each, from address f and from place z of the image on
+abbrev pub Region : ℕ → ℕ → ℕ → ℕ → Type 0
+Region i f m z =
+    (j : ℕ) → i ≤ j → j < i + 2 → (j < length part) × (blockAddress part j ≡ f + (j - i) * m) × (blockSize part j ≡ m) × (blockFrom part j ≡ z + (j - i) * m)
 
--- and of high flash, whose first block is block 2
-pub in-high : (a n k : ℕ) → n < 2 → 0xC000 + n * 8192 ≤ a → a < 0xC000 + n * 8192 + 8192 → k ≡ 4096 + (a - 0xC000) → Inside (2 + n) k ≡ find part a
-in-high a zero k h p q e =
-    sym (lies 0 part rising a 2 k (record { number = omega arith; from = omega arith; under = omega arith; place = omega arith }))
-in-high a (suc zero) k h p q e =
-    sym (lies 0 part rising a 3 k (record { number = omega arith; from = omega arith; under = omega arith; place = omega arith }))
-in-high a (suc (suc n)) k h p q e = absurd (omega arith)
+pub low : Region 0 0x2000 2048 0
+low zero g h = (omega arith, refl, refl, refl)
+low (suc zero) g h = (omega arith, refl, refl, refl)
+low (suc (suc j)) g h = absurd (omega arith)
 
-in-a-region : (a i k : ℕ) → find part a ≡ Inside i k → ((0x2000 ≤ a) × (a < 0x3000)) ⊎ ((0xC000 ≤ a) × (a < 0x10000))
-in-a-region a i k e = go i (found part a i k e)
-  where
-    go : (i : ℕ) → Lies part i k a → ((0x2000 ≤ a) × (a < 0x3000)) ⊎ ((0xC000 ≤ a) × (a < 0x10000))
-    go zero l = inl (omega (arith, l .from), omega (arith, l .under))
-    go (suc zero) l = inl (omega (arith, l .from), omega (arith, l .under))
-    go (suc (suc zero)) l = inr (omega (arith, l .from), omega (arith, l .under))
-    go (suc (suc (suc zero))) l = inr (omega (arith, l .from), omega (arith, l .under))
-    go (suc (suc (suc (suc i)))) l = absurd (omega (arith, l .number))
+pub high : Region 2 0xC000 8192 4096
+high zero g h = absurd (omega arith)
+high (suc zero) g h = absurd (omega arith)
+high (suc (suc zero)) g h = (omega arith, refl, refl, refl)
+high (suc (suc (suc zero))) g h = (omega arith, refl, refl, refl)
+high (suc (suc (suc (suc j)))) g h = absurd (omega arith)
+
+-- an address of a region is in the block between whose bounds it lies, as far into the region's part of the image as into the region
+pub in-region : (i f m z : ℕ) → Region i f m z → (a j k : ℕ) → i ≤ j → j < i + 2 → f + (j - i) * m ≤ a → a < f + (j - i) * m + m → k ≡ z + (a - f) → Inside j k ≡ find part a
+in-region i f m z r a j k g h p q e =
+    let t = r j g h in
+    sym
+    (lies 0 part rising a j k
+    (record { number = t .0; from = omega (arith, t .1); under = omega (arith, t .1, t .2); place = omega (arith, t .1, t .3) }))
 
 -- an address of neither region is in no block
 pub in-no-region : (a : ℕ) → (0x2000 ≤ a → a < 0x3000 → ⊥) → (0xC000 ≤ a → a < 0x10000 → ⊥) → Outside ≡ find part a
-in-no-region a low high = go (find part a) refl
+in-no-region a not-low not-high = go (find part a) refl
   where
+    in-none : (i k : ℕ) → Lies part i k a → ⊥
+    in-none zero k l = not-low (omega (arith, l .from)) (omega (arith, l .under))
+    in-none (suc zero) k l = not-low (omega (arith, l .from)) (omega (arith, l .under))
+    in-none (suc (suc zero)) k l = not-high (omega (arith, l .from)) (omega (arith, l .under))
+    in-none (suc (suc (suc zero))) k l = not-high (omega (arith, l .from)) (omega (arith, l .under))
+    in-none (suc (suc (suc (suc i)))) k l = absurd (omega (arith, l .number))
+
     go : (w : Found) → find part a ≡ w → Outside ≡ find part a
-    go (Inside i k) e = absurd (⊎-elim (λ p. low (p .0) (p .1)) (λ p. high (p .0) (p .1)) (in-a-region a i k e))
+    go (Inside i k) e = absurd (in-none i k (found part a i k e))
     go Outside e = sym e

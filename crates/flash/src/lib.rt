@@ -20,7 +20,7 @@ pub const PAGE: usize = 256;
 const BLOCKS: usize = 4;
 
 // The block of an address and the place in the image, from the page number: low flash is pages 20 to 2F, blocks of 8 pages, and high flash
-// pages C0 to FF, blocks of 32. In each, what adjoins in the memory adjoins in the image.
+// pages C0 to FF, blocks of 32. In each the image has the bytes in the order of their addresses, without a gap.
 pub fn block_of(address: u32) -> Found
     ensures { λ r. ⌜ BlockOfEnsures address r ⌝ }
 {

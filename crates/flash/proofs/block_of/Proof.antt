@@ -1,7 +1,7 @@
--- `flash::block_of` meets its contract: its tests send each page to low flash, to high flash or outside, and the laws of the split say what stands there.
+-- `flash::block_of` meets its contract: its tests send each page to low flash, to high flash or outside, and in a region the block and the place are reckoned as the law of a region has them.
 use borrow.Author.Needs.{needs}
 use native.Mathlib.Omega.{arith}
-use Rattle.flash.proofs.Split.{in-low, in-high, in-no-region}
+use Rattle.flash.proofs.Split.{low, high, in-region, in-no-region}
 use Rattle.flash.proofs.block_of.Statement.{statement}
 use Rattle.flash.proofs.block_of.Tie as tie
 
@@ -21,7 +21,7 @@ cast-t9 : tie.Need-cast-t9
 cast-t9 c = search needs
 
 returns-3 : tie.Need-returns-3
-returns-3 c = in-low _ _ _ (omega arith) (omega arith) (omega arith) (omega arith)
+returns-3 c = in-region _ _ _ _ low _ _ _ (omega arith) (omega arith) (omega arith) (omega arith) (omega arith)
 
 returns-4 : tie.Need-returns-4
 returns-4 c = in-no-region _ (λ p q. omega arith) (λ p q. omega arith)
@@ -42,7 +42,7 @@ add-t16 : tie.Need-add-t16
 add-t16 c = search needs
 
 returns-5 : tie.Need-returns-5
-returns-5 c = in-high _ _ _ (omega arith) (omega arith) (omega arith) (omega arith)
+returns-5 c = in-region _ _ _ _ high _ _ _ (omega arith) (omega arith) (omega arith) (omega arith) (omega arith)
 
 pub block-of-spec : {M : Type 1} → statement M
 block-of-spec =
