@@ -103,6 +103,11 @@ impl Line<'_> {
         }
     }
 
+    /// Where n bytes end with the last byte of the flash's bank, or one before it.
+    fn ending_a_bank(&mut self, n: usize) -> u32 {
+        0x010000 - n as u32 - self.random.of(&[0, 0, 1])
+    }
+
     fn data(&mut self, n: usize) -> Vec<u8> {
         match self.random.below(5) {
             0 => vec![0x00; n],
@@ -142,10 +147,14 @@ impl Line<'_> {
                 self.bytes.extend(data);
             }
             5..=8 => {
-                let a = self.address();
                 let n = self
                     .random
                     .of(&[0, 1, 1, 1, 2, 2, 3, 7, 15, 16, 17, 40, 255]);
+                let a = if self.random.once_in(6) {
+                    self.ending_a_bank(n)
+                } else {
+                    self.address()
+                };
                 let data = self.data(n);
                 self.bytes.push(0x49);
                 self.bytes

@@ -22,7 +22,7 @@ const BATCH: usize = 250;
 
 const USAGE: &str = "usage: compare CASES SEED FOLDER PORT.. -- REFERENCE..\n\
     CASES cases are drawn from the number SEED and given to both commands in batches; FOLDER holds the files in between.\n\
-    Before them the twelve sessions of document 01 are played and held to typed values.";
+    Before them the twelve sessions of document 01, with document 02's Item 3, are played and held to typed values.";
 
 struct Commands {
     folder: PathBuf,
@@ -123,6 +123,17 @@ fn play_sessions(commands: &Commands) -> Result<bool, String> {
     let cases: Vec<Case> = sessions.iter().map(|s| s.case.clone()).collect();
     let (port, reference) = commands.ask(&cases)?;
     let mut good = true;
+    let (mut p, mut r) = (&port[..], &reference[..]);
+    for session in &sessions {
+        let n = session.case.answer_len();
+        let (here, there) = (&p[..n.min(p.len())], &r[..n.min(r.len())]);
+        if here != there {
+            println!("session {}: the two programs' answers differ", session.name);
+            good = false;
+        }
+        p = &p[here.len()..];
+        r = &r[there.len()..];
+    }
     for (who, bytes) in [("port", port), ("reference", reference)] {
         let mut rest = &bytes[..];
         for session in &sessions {
@@ -137,7 +148,7 @@ fn play_sessions(commands: &Commands) -> Result<bool, String> {
         }
     }
     println!(
-        "sessions: {} rows of document 01's twelve sessions, by both programs",
+        "sessions: {} rows of document 01's twelve sessions and of document 02's Item 3, by both programs",
         sessions.len()
     );
     Ok(good)

@@ -1,4 +1,4 @@
-//! Document 01's twelve sessions at the edges, with what they must answer typed from the document.
+//! Document 01's twelve sessions at the edges, session 11 as document 02's Item 3 has it, and that item's own edge, with what they must answer typed from the documents.
 
 use crate::answer::Answer;
 use crate::case::{Beginning, Case, Group, Record, IMAGE};
@@ -96,6 +96,24 @@ fn with_page(head: &[u8], data: &[u8], tail: &[u8]) -> Vec<u8> {
     [head, data, tail].concat()
 }
 
+/// A unit program of zeros in page 0FF00. They can stand over whatever lies there, so that 90 comes from their number alone; the reset vector is FF, so that each of them is seen.
+fn unit_zeros(name: &'static str, low: u8, size: u8, srd: u8) -> Session {
+    let n = size as usize;
+    let mut s = session(
+        name,
+        open(0),
+        &with_page(&[0x49, low, 0xFF, 0x00, size], &vec![0; n], &[0x70]),
+        &[(6 + n, &[srd, 0x0C])],
+        (srd, 0x0C),
+    );
+    s.case.image[20476..20479].fill(0xFF);
+    if srd == 0x80 {
+        let first = 20224 + low as usize;
+        s.changed = (first..first + n).map(|k| (k, 0x00)).collect();
+    }
+    s
+}
+
 pub fn all() -> Vec<Session> {
     let right = [
         0xF5, 0xDF, 0xFF, 0x00, 0x07, 0x31, 0x32, 0x33, 0x34, 0x35, 0x36, 0x37, 0x70,
@@ -117,14 +135,14 @@ pub fn all() -> Vec<Session> {
         (0x90, 0x0C),
     );
     nine.changed = vec![(0, 0x00)];
-    let mut eleven = session(
-        "11, size 10",
+    let mut page_ff00 = session(
+        "Item 3, page 0FF00",
         open(0),
-        &with_page(&[0x49, 0xF0, 0xFF, 0x00, 0x10], &[0; 16], &[0x70]),
-        &[(22, &[0x80, 0x0C])],
+        &with_page(&[0x41, 0xFF, 0x00], &[0; 256], &[0x70]),
+        &[(260, &[0x80, 0x0C])],
         (0x80, 0x0C),
     );
-    eleven.changed = (20464..20480).map(|k| (k, 0x00)).collect();
+    page_ff00.changed = (20224..20480).map(|k| (k, 0x00)).collect();
     let page_3000 = with_page(&[0x41, 0x30, 0x00], &[0; 256], &[0x70]);
     vec![
         session("1", closed(), &right, &[(13, &[0x80, 0x0C])], (0x80, 0x0C)),
@@ -214,14 +232,13 @@ pub fn all() -> Vec<Session> {
             &[(260, &[0x90, 0x0C])],
             (0x90, 0x0C),
         ),
-        eleven,
-        session(
-            "11, size 11",
-            open(0),
-            &with_page(&[0x49, 0xF0, 0xFF, 0x00, 0x11], &[0; 17], &[0x70]),
-            &[(23, &[0x90, 0x0C])],
-            (0x90, 0x0C),
-        ),
+        unit_zeros("11, size 0F", 0xF0, 0x0F, 0x80),
+        unit_zeros("11, size 10", 0xF0, 0x10, 0x90),
+        unit_zeros("Item 3, 0FFF0, size 0E", 0xF0, 0x0E, 0x80),
+        unit_zeros("Item 3, 0FFF0, size 11", 0xF0, 0x11, 0x90),
+        unit_zeros("Item 3, 0FFFE, size 01", 0xFE, 0x01, 0x80),
+        unit_zeros("Item 3, 0FFFF, size 01", 0xFF, 0x01, 0x90),
+        page_ff00,
         started(IMAGE - 1, 0, 1, "12, 20,479 bytes"),
         started(IMAGE + 1, 0, 1, "12, 20,481 bytes"),
         started(IMAGE, 15, 0, "12, protection 15"),

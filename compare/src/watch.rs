@@ -40,6 +40,7 @@ const WANTED: &[&str] = &[
     "49 open: differs",
     "49 open: none",
     "49 open: bank",
+    "49 open: bank alone",
     "49 open: outside",
     "49 open: protected",
     "49 open: standing",
@@ -90,6 +91,7 @@ const WANTED: &[&str] = &[
     "written: place 4096",
     "written: place 12287",
     "written: place 12288",
+    "written: place 20478",
     "written: place 20479",
 ];
 
@@ -259,10 +261,11 @@ impl Watch {
                     "outside"
                 }
             }
-            0x41 => self.program(page(0), &got[2..], before, after, protection),
+            0x41 => self.program(page(0), &got[2..], 65_536, before, after, protection),
             0x49 => self.program(
                 got[0] as usize | page(1),
                 &got[4..],
+                65_535,
                 before,
                 after,
                 protection,
@@ -293,6 +296,7 @@ impl Watch {
         &mut self,
         address: usize,
         data: &[u8],
+        most: usize,
         before: u8,
         after: u8,
         protection: usize,
@@ -303,22 +307,27 @@ impl Watch {
         if data.is_empty() {
             return "none";
         }
-        if address % 65_536 + data.len() > 65_536 {
-            return "bank";
-        }
         let places: Vec<_> = (0..data.len()).map(|j| find(address + j)).collect();
-        if places.iter().any(|p| p.is_none()) {
-            return "outside";
-        }
-        if places
+        let outside = places.iter().any(|p| p.is_none());
+        let protected = places
             .iter()
             .flatten()
-            .any(|(block, _)| protection >> block & 1 == 1)
-        {
+            .any(|(block, _)| protection >> block & 1 == 1);
+        if address % 65_536 + data.len() > most {
+            return if outside || protected {
+                "bank"
+            } else {
+                "bank alone"
+            };
+        }
+        if outside {
+            return "outside";
+        }
+        if protected {
             return "protected";
         }
         for (_, place) in places.into_iter().flatten() {
-            if [0, 2047, 2048, 4095, 4096, 12287, 12288, 20479].contains(&place) {
+            if [0, 2047, 2048, 4095, 4096, 12287, 12288, 20478, 20479].contains(&place) {
                 self.note(format!("written: place {place}"));
             }
         }

@@ -22,8 +22,10 @@ pub const ID_ADDRESSES: [u32; 7] = [
 /// Addresses that all hold FF in a blank image (0FFFF is not looked at).
 pub const BLANK_ADDRESSES: [u32; 3] = [0x0FFFC, 0x0FFFD, 0x0FFFE];
 
-/// Addresses in one bank: a program may not run over the end of a bank.
-const BANK_LEN: u32 = 65_536;
+/// The low 16 address bits plus the size of a page program are at most this: it may fill its bank.
+pub const PAGE_PROGRAM_END: u32 = 65_536;
+/// The same for a unit program: it does not reach the last byte of its bank.
+pub const UNIT_PROGRAM_END: u32 = 65_535;
 
 /// The block that a 24-bit address lies in, or none if it is outside.
 pub const fn block_at(address: u32) -> Option<usize> {
@@ -83,10 +85,16 @@ pub fn is_id(image: &Image, given: &[u8]) -> bool {
             .all(|(&address, &byte)| at(image, address) == Some(byte))
 }
 
-/// Programs `data` from `address` on. False means program error: either nothing was permitted and
-/// nothing is written, or all was written and some byte differs from its data.
-pub fn program(image: &mut Image, protection: u8, address: u32, data: &[u8]) -> bool {
-    let Some(cells) = programmable(protection, address, data.len()) else {
+/// Programs `data` from `address` on, if [`programmable`]. False means program error: either it was
+/// not permitted and nothing is written, or all was written and some byte differs from its data.
+pub fn program(
+    image: &mut Image,
+    protection: u8,
+    address: u32,
+    data: &[u8],
+    bank_end: u32,
+) -> bool {
+    let Some(cells) = programmable(protection, address, data.len(), bank_end) else {
         return false;
     };
     let mut held = true;
@@ -98,9 +106,15 @@ pub fn program(image: &mut Image, protection: u8, address: u32, data: &[u8]) -> 
 }
 
 /// The image offsets of `len` bytes from `address` on, if they may be programmed: at least one and
-/// at most a page, not over the end of the bank, none outside and none in a protected block.
-pub fn programmable(protection: u8, address: u32, len: usize) -> Option<Range<usize>> {
-    if len == 0 || len > PAGE_LEN || (address & 0xFFFF) + len as u32 > BANK_LEN {
+/// at most a page, the low 16 address bits plus `len` at most `bank_end`, none outside and none in
+/// a protected block.
+pub fn programmable(
+    protection: u8,
+    address: u32,
+    len: usize,
+    bank_end: u32,
+) -> Option<Range<usize>> {
+    if len == 0 || len > PAGE_LEN || (address & 0xFFFF) + len as u32 > bank_end {
         return None;
     }
     // No block and no gap is as short as a page, so the two ends speak for what lies between.

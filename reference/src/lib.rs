@@ -1,4 +1,5 @@
-//! An ordinary Rust port of the serial boot protocol of document 01 (the base alone).
+//! An ordinary Rust port of the serial boot protocol: document 01's base, with Item 3 of
+//! document 02.
 //!
 //! The port itself is [`start`], [`byte`] and [`run`] over a [`Unit`] and the caller's flash
 //! image. Around it: the bench program's text ([`bench`]), the reader and answerer of batches of

@@ -167,10 +167,13 @@ fn act(unit: &mut Unit, image: &mut Image, reply: &mut Reply, command: Command) 
     let [c0, c1, c2, c3, ..] = unit.collected;
     match command {
         Command::PageRead => return read_page(image, reply, c0, c1),
-        Command::PageProgram => program(unit, image, flash::address(0, c0, c1), 2..2 + PAGE_LEN),
+        Command::PageProgram => {
+            let (address, data) = (flash::address(0, c0, c1), 2..2 + PAGE_LEN);
+            program(unit, image, address, data, flash::PAGE_PROGRAM_END);
+        }
         Command::UnitProgram => {
-            let data = 4..4 + usize::from(c3);
-            program(unit, image, flash::address(c0, c1, c2), data);
+            let (address, data) = (flash::address(c0, c1, c2), 4..4 + usize::from(c3));
+            program(unit, image, address, data, flash::UNIT_PROGRAM_END);
         }
         Command::BlockErase => {
             if erase_goes_on(unit, c2)
@@ -207,9 +210,12 @@ fn read_page(image: &Image, reply: &mut Reply, mid: u8, high: u8) -> usize {
 }
 
 /// Programs the data at these collected places, unless an error bit stands.
-fn program(unit: &mut Unit, image: &mut Image, address: u32, data: Range<usize>) {
-    if !unit.has_error() && !flash::program(image, unit.protection, address, &unit.collected[data])
-    {
+fn program(unit: &mut Unit, image: &mut Image, address: u32, data: Range<usize>, bank_end: u32) {
+    if unit.has_error() {
+        return;
+    }
+    let data = &unit.collected[data];
+    if !flash::program(image, unit.protection, address, data, bank_end) {
         unit.srd |= srd::PROGRAM_ERROR;
     }
 }

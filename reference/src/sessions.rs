@@ -1,4 +1,5 @@
-//! The twelve sessions at the edges, with the values that document 01 expects.
+//! The twelve sessions at the edges, with the values that document 01 expects; session 11 as Item 3
+//! of document 02 has it.
 
 use crate::flash::{self, IMAGE_LEN};
 use crate::port::{byte, start, REPLY_ROOM};
@@ -209,17 +210,22 @@ pub fn play(number: usize) -> Vec<Check> {
                 Check::bytes("SRD after program", &[0x90], &[rig.unit.srd]),
             ]
         }
-        // Data 00 fits whatever the cells hold, so SR4 tells alone whether it was permitted.
+        // Data 00 fits whatever the cells hold, so SR4 tells alone whether it was permitted. 0FFFE
+        // is made FF before, so that its write can be seen.
         11 => {
             let mut fits = Rig::open(0);
-            fits.feed(&unit_program(0x0FFF0, &[0x00; 0x10]));
+            fits.set(0x0FFFE, 0xFF);
+            fits.feed(&unit_program(0x0FFF0, &[0x00; 0x0F]));
             let mut exceeds = Rig::open(0);
-            exceeds.feed(&unit_program(0x0FFF0, &[0x00; 0x11]));
+            exceeds.set(0x0FFFE, 0xFF);
+            exceeds.feed(&unit_program(0x0FFF0, &[0x00; 0x10]));
             vec![
-                Check::bytes("SRD after size 10", &[0x80], &[fits.unit.srd]),
-                Check::bytes("0FFFF after size 10", &[0x00], &[fits.at(0x0FFFF)]),
-                Check::bytes("SRD after size 11", &[0x90], &[exceeds.unit.srd]),
-                Check::bytes("0FFFF after size 11", &[0xFF], &[exceeds.at(0x0FFFF)]),
+                Check::bytes("SRD after size 0F", &[0x80], &[fits.unit.srd]),
+                Check::bytes("0FFFE after size 0F", &[0x00], &[fits.at(0x0FFFE)]),
+                Check::bytes("0FFFF after size 0F", &[0xFF], &[fits.at(0x0FFFF)]),
+                Check::bytes("SRD after size 10", &[0x90], &[exceeds.unit.srd]),
+                Check::bytes("0FFFE after size 10", &[0xFF], &[exceeds.at(0x0FFFE)]),
+                Check::bytes("0FFFF after size 10", &[0xFF], &[exceeds.at(0x0FFFF)]),
             ]
         }
         12 => vec![

@@ -23,29 +23,30 @@ use Rattle.protocol.specs.Rows.{Ready, Row, May}
 use Rattle.protocol.specs.Rows.Row.{after-41, after-49, after-20, after-A7}
 use Rattle.protocol.specs.Rows.Programs.{page as page-packet, bytes as bytes-packet}
 use Rattle.protocol.specs.Rows.Erases.{block as block-packet, all as all-packet}
+use Rattle.protocol.specs.Endings.{bankEnd}
 use Rattle.protocol.specs.Changes.{Carried}
 use Rattle.protocol.specs.Changes.Carried.{page as page-done, bytes as bytes-done, block as block-done, all as all-done}
 use Rattle.protocol.proofs.RowsMay.{clear-bit}
 use Rattle.protocol.proofs.RowsProgram.{program-carried-out}
 use Rattle.protocol.proofs.RowsErase.{erase-block, erase-every-block}
 use Rattle.demands.specs.Flash.{InBlock, Address, Unprotected}
-use Rattle.demands.specs.Changes.{Begins, MayProgram, Programmed, Erased, Carries, Permitted}
+use Rattle.demands.specs.Changes.{Begins, pageReach, unitReach, MayProgram, Programmed, Erased, Carries, Permitted}
 use Rattle.demands.specs.Changes.Carries.{page as carries-page, bytes as carries-bytes, block as carries-block, all as carries-all}
 use Rattle.demands.specs.Changes.Permitted.{page, bytes, block, all}
 use Rattle.demands.proofs.Records.{open-is, address-is, place-address}
 
 -- when a program may be carried out
-may-is : {p a : ℕ} {ds : List ℕ} → MayProgram p a ds → May p a ds
-may-is {p} {a} m =
+may-is : {reach p a : ℕ} {ds : List ℕ} → MayProgram reach p a ds → May reach p a ds
+may-is {a = a} m =
     record {
       some = m .some;
       bank = m .bank;
       free = λ j h. let w = m .free j h in (w .0, w .1, address-is (a + j) (w .0) (w .1) .0 (w .2), w .3);
     }
 
-may-back : (p a b : ℕ) (ds : List ℕ) → a ≡ b → a % 65536 + length ds ≤ 65536 → permitted part p a ds ≡ true → MayProgram p b ds
-may-back p a b ds q bank e =
-    subst (λ (x : ℕ). MayProgram p x ds) q
+may-back : (reach p a b : ℕ) (ds : List ℕ) → a ≡ b → a % 65536 + length ds ≤ reach → permitted part p a ds ≡ true → MayProgram reach p b ds
+may-back reach p a b ds q bank e =
+    subst (λ (x : ℕ). MayProgram reach p x ds) q
     (record {
       some = permitted-some part p a ds e;
       bank = bank;
@@ -120,10 +121,11 @@ packet-effect {u} b s img size all =
 
 -- what the specification carries out is a permitted packet
 pub carried-permitted : {p : ℕ} {img xs new : List ℕ} {k : Kind} {c : ℕ} → Carried p img xs k new → Row k c xs → Permitted p (c ∷ xs)
+unfolding bankEnd
 carried-permitted {p} (page-done m) (after-41 {mid} {high} {ds} h) =
-    page h (may-back p (pageAddress mid high) (256 * mid + 65536 * high) ds (omega arith) (m .bank) (m .free))
+    page h (may-back pageReach p (pageAddress mid high) (256 * mid + 65536 * high) ds (omega arith) (m .bank) (m .free))
 carried-permitted {p} (bytes-done m) (after-49 {low} {mid} {high} {ds} h) =
-    bytes h (may-back p (byteAddress low mid high) (low + 256 * mid + 65536 * high) ds (omega arith) (m .bank) (m .free))
+    bytes h (may-back unitReach p (byteAddress low mid high) (low + 256 * mid + 65536 * high) ds (omega arith) (m .bank) (m .free))
 carried-permitted {p} (block-done c m) (after-20 {mid} {high} {confirm}) =
     let q : pageAddress mid high ≡ 256 * mid + 65536 * high = omega arith in
     let w = free-found p (find part (pageAddress mid high)) m in

@@ -7,6 +7,7 @@ pub mod Effects
 pub mod OneEffect
 pub mod Pending
 pub mod Demand2
+pub mod LastByte
 pub mod Pinned
 pub mod Witnesses
 pub mod Calm

@@ -115,3 +115,27 @@ pub byte-numbers : map (λ (l : Left). l .answer .refusal)
     ≡ 0 ∷ 1 ∷ 3 ∷ 4 ∷ []
 unfolding area idle image sized holds find placeOf guarded free byteAt storedId isBlank programmed permitted burnt program begun fresh phased longer ended isOpen standing commandOf need packetFits positionFits srdFits srd1Fits registersFit settingsFit inRange commands meaning needsOpen effect dropped commanded bankEnd programmedBy programs rightId isRight judged finished wakes asleep body completes inPacket stepAt step refusal byteCall runCall
 byte-numbers = refl
+
+-- a page program to page 0FF00 can change 0FFFF: sixteen zeros and B0; the right ID packet; 256 times 00 for page 0FF00, whose last byte is the 288th
+unfoldable pub page-calls : List Call
+unfolding area
+page-calls =
+    run (replicate 16 0x00 ++ (0xB0 ∷ [])) area
+    ∷ run (0xF5 ∷ 0xDF ∷ 0xFF ∷ 0x00 ∷ 0x07 ∷ 0x31 ∷ 0x32 ∷ 0x33 ∷ 0x34 ∷ 0x35 ∷ 0x36 ∷ 0x37 ∷ []) area
+    ∷ run (0x41 ∷ 0xFF ∷ 0x00 ∷ replicate 256 0x00) area
+    ∷ []
+
+pub page-history : History image (inputs 0) page-calls
+unfolding image page-calls tested all-tested
+page-history = history-exists image (inputs 0) page-calls refl (omega arith) (all-bytes page-calls refl)
+
+-- 0FFFF before the last byte, and after it
+abbrev Changed : List Entry → Type 0
+Changed es = (getD (imageAfter image es 287) 20479 0 ≡ 0xFF) × (getD (imageAfter image es 288) 20479 0 ≡ 0x00)
+
+computed-change : Changed (entriesOf 0 (fresh image (inputs 0)) image page-calls)
+unfolding area page-calls image sized holds find placeOf guarded free byteAt storedId isBlank programmed permitted burnt program begun fresh phased longer ended isOpen standing commandOf need packetFits positionFits srdFits srd1Fits registersFit settingsFit inRange commands meaning needsOpen effect dropped commanded bankEnd programmedBy programs rightId isRight judged finished wakes asleep body completes inPacket stepAt step refusal byteCall runCall
+computed-change = (refl, refl)
+
+pub page-changes : (h : History image (inputs 0) page-calls) → (getD (imageAfter image (h .trace) 287) 20479 0 ≡ 0xFF) × (getD (imageAfter image (h .trace) 288) 20479 0 ≡ 0x00)
+page-changes h = subst⁻¹ Changed (trace-is h) computed-change

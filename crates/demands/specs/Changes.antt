@@ -18,10 +18,17 @@ pub record Begins (u : Port) : Type 0 where
   pub opened : Open u
   pub ready : u .registers .srd ≡ 0x80
 
--- a program may be carried out: there are data, the low 16 address bits plus their number do not exceed 65,536, and each byte lies in a block that is not protected
-pub record MayProgram (p a : ℕ) (ds : List ℕ) : Type 0 where
+-- how far the low 16 address bits plus the number of data may reach: 65,536 for a page program; 65,535 for a unit program (document 02, Item 3)
+abbrev pub pageReach : ℕ
+pageReach = 65536
+
+abbrev pub unitReach : ℕ
+unitReach = 65535
+
+-- a program may be carried out: there are data, the low 16 address bits plus their number do not exceed what its packet may reach, and each byte lies in a block that is not protected
+pub record MayProgram (reach p a : ℕ) (ds : List ℕ) : Type 0 where
   pub some : 0 < length ds
-  pub bank : a % 65536 + length ds ≤ 65536
+  pub bank : a % 65536 + length ds ≤ reach
   pub free : (j : ℕ) → j < length ds → (i : ℕ) × (k : ℕ) × Address (a + j) i k × Unprotected p i
 
 -- programming leaves old AND new at the places of its addresses, and every other place as it was
@@ -39,9 +46,9 @@ pub record Erased (P : ℕ → Type 0) (img new : List ℕ) : Type 0 where
 -- a whole packet that is permitted under protection p, and what it leaves of an image: 41, mid, high, 256 data; 49, low, mid, high, size n, n data;
 -- 20, mid, high, D0, an address in a block that is not protected; A7, D0, every block that is not protected
 pub data Carries (p : ℕ) (img : List ℕ) : List ℕ → List ℕ → Type 0 where
-  page : {mid high : ℕ} {ds new : List ℕ} → length ds ≡ 256 → MayProgram p (256 * mid + 65536 * high) ds
+  page : {mid high : ℕ} {ds new : List ℕ} → length ds ≡ 256 → MayProgram pageReach p (256 * mid + 65536 * high) ds
       → Programmed (256 * mid + 65536 * high) ds img new → Carries p img (0x41 ∷ mid ∷ high ∷ ds) new
-  bytes : {low mid high : ℕ} {ds new : List ℕ} → length ds < 256 → MayProgram p (low + 256 * mid + 65536 * high) ds
+  bytes : {low mid high : ℕ} {ds new : List ℕ} → length ds < 256 → MayProgram unitReach p (low + 256 * mid + 65536 * high) ds
       → Programmed (low + 256 * mid + 65536 * high) ds img new → Carries p img (0x49 ∷ low ∷ mid ∷ high ∷ length ds ∷ ds) new
   block : {mid high i k : ℕ} {new : List ℕ} → Address (256 * mid + 65536 * high) i k → Unprotected p i
       → Erased (λ (j : ℕ). j ≡ i) img new → Carries p img (0x20 ∷ mid ∷ high ∷ 0xD0 ∷ []) new
@@ -49,8 +56,8 @@ pub data Carries (p : ℕ) (img : List ℕ) : List ℕ → List ℕ → Type 0 w
 
 -- a whole packet that is permitted under protection p
 pub data Permitted (p : ℕ) : List ℕ → Type 0 where
-  page : {mid high : ℕ} {ds : List ℕ} → length ds ≡ 256 → MayProgram p (256 * mid + 65536 * high) ds → Permitted p (0x41 ∷ mid ∷ high ∷ ds)
-  bytes : {low mid high : ℕ} {ds : List ℕ} → length ds < 256 → MayProgram p (low + 256 * mid + 65536 * high) ds
+  page : {mid high : ℕ} {ds : List ℕ} → length ds ≡ 256 → MayProgram pageReach p (256 * mid + 65536 * high) ds → Permitted p (0x41 ∷ mid ∷ high ∷ ds)
+  bytes : {low mid high : ℕ} {ds : List ℕ} → length ds < 256 → MayProgram unitReach p (low + 256 * mid + 65536 * high) ds
       → Permitted p (0x49 ∷ low ∷ mid ∷ high ∷ length ds ∷ ds)
   block : {mid high i k : ℕ} → Address (256 * mid + 65536 * high) i k → Unprotected p i → Permitted p (0x20 ∷ mid ∷ high ∷ 0xD0 ∷ [])
   all : Permitted p (0xA7 ∷ 0xD0 ∷ [])

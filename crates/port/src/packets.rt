@@ -20,10 +20,10 @@ ghost use Rattle.protocol.specs.Calls.{answered};
 ghost use Rattle.acts.specs.Clauses.{afterPacket};
 ghost use Rattle.port.specs.Parts.{took, silent};
 
-// How far the low 16 address bits and the size of a program may reach: the end of a bank of 64 KiB.
+// How far the low 16 address bits and the size of a program may reach: a page program to the end of a bank of 64 KiB, a unit program not to its last byte.
 const PAGE_PROGRAM_MOST: usize = 65536;
 
-const UNIT_PROGRAM_MOST: usize = 65536;
+const UNIT_PROGRAM_MOST: usize = 65535;
 
 pub(crate) fn page_read(
     s: State,

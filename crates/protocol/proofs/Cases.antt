@@ -161,15 +161,15 @@ module _ (u : Port) (img : List ℕ) (b : ℕ) where
 
   -- where a program, or an erase, changes the image, it is permitted
   module _ (p a : ℕ) where
-    program-change : (k : Kind) (ds : List ℕ) → bankEnd k ≡ 65536
-        → (sized part img ≡ true → Permitted p a ds → Done u img b (program part p img a ds .image)) → Change u img b (programmedBy k p img a ds .image)
+    program-change : (k : Kind) (ds : List ℕ)
+        → (sized part img ≡ true → Permitted k p a ds → Done u img b (program part p img a ds .image)) → Change u img b (programmedBy k p img a ds .image)
     unfolding programmedBy
-    program-change k ds bank f =
+    program-change k ds f =
         cond-elim (λ (w : Written). Change u img b (w .image)) (leb (a % 65536 + length ds) (bankEnd k)) _ _
-        (λ t. go (sized part img) refl (permitted part p a ds) refl (omega (arith, leb-true (a % 65536 + length ds) (bankEnd k) t)))
+        (λ t. go (sized part img) refl (permitted part p a ds) refl (leb-true (a % 65536 + length ds) (bankEnd k) t))
         (λ t. none refl)
       where
-        go : (s : Bool) → sized part img ≡ s → (t : Bool) → permitted part p a ds ≡ t → a % 65536 + length ds ≤ 65536 → Change u img b (program part p img a ds .image)
+        go : (s : Bool) → sized part img ≡ s → (t : Bool) → permitted part p a ds ≡ t → a % 65536 + length ds ≤ bankEnd k → Change u img b (program part p img a ds .image)
         go false s q t h = none (ap (λ (w : Written). w .image) (program-unsized part p img a ds s))
         go true s false t h = none (ap (λ (w : Written). w .image) (program-refused part p img a ds t))
         go true s true t h = last (f s (record { bank = h; free = t }))
@@ -191,10 +191,10 @@ module _ (u : Port) (img : List ℕ) (b : ℕ) where
 
   -- a packet's last byte
   pub packet-ends : (k : Kind) (n : ℕ) → positionOf (u .phase) ≡ within k n → suc n ≡ need k (body n u b) → Ending u img b (finished k u img (body n u b))
-  unfolding finished bankEnd judged
+  unfolding finished judged
   packet-ends page-read n e h = tells _ (omega (arith, page-reply-long img (getD (body n u b) 0 0) (getD (body n u b) 1 0)))
-  packet-ends page-program n e h = ending-programs _ (λ r. program-change _ _ page-program _ refl (λ s m. done page-program n e h r s (page m)))
-  packet-ends unit-program n e h = ending-programs _ (λ r. program-change _ _ unit-program _ refl (λ s m. done unit-program n e h r s (bytes m)))
+  packet-ends page-program n e h = ending-programs _ (λ r. program-change _ _ page-program _ (λ s m. done page-program n e h r s (page m)))
+  packet-ends unit-program n e h = ending-programs _ (λ r. program-change _ _ unit-program _ (λ s m. done unit-program n e h r s (bytes m)))
   packet-ends block-erase n e h = ending-erases _ _ (λ r c. erase-change _ _ (λ s m. done block-erase n e h r s (block c m)))
   packet-ends erase-all n e h = ending-erases _ _ (λ r c. erase-all-change _ (λ s. done erase-all n e h r s (all c)))
   packet-ends id-check n e h =

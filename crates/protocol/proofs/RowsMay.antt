@@ -64,8 +64,8 @@ module _ (p : ℕ) {w : Found} where
   unfolding free
   not-free-protected {i} e z = ap (free p) e ∙ ap not (bit-set p i z)
 
-module _ (p a : ℕ) (ds : List ℕ) where
-  pub may-permitted : May p a ds → permitted part p a ds ≡ true
+module _ (most p a : ℕ) (ds : List ℕ) where
+  pub may-permitted : May most p a ds → permitted part p a ds ≡ true
   may-permitted m =
       permitted-is part p a (length ds) ds refl
       ∙ both-and (ltb 0 (length ds)) (freeFrom part p a (length ds)) (lt-ltb 0 (length ds) (m .some))
@@ -82,24 +82,24 @@ module _ (p a : ℕ) (ds : List ℕ) where
   empty e = permitted-is part p a 0 ds e
 
   -- but for the end of the bank, which is tested apart
-  pub may-not-permitted : MayNot p a ds → (65536 < a % 65536 + length ds) ⊎ (permitted part p a ds ≡ false)
+  pub may-not-permitted : MayNot most p a ds → (most < a % 65536 + length ds) ⊎ (permitted part p a ds ≡ false)
   may-not-permitted (none e) = inr (empty e)
   may-not-permitted (bank h) = inl h
   may-not-permitted (outside j h e) = inr (forbids j h (not-free-outside p e))
   may-not-permitted (protected j i k h e z) = inr (forbids j h (not-free-protected p e z))
 
-  which : (j : ℕ) → j < length ds → free p (find part (a + j)) ≡ false → (w : Found) → find part (a + j) ≡ w → MayNot p a ds
+  which : (j : ℕ) → j < length ds → free p (find part (a + j)) ≡ false → (w : Found) → find part (a + j) ≡ w → MayNot most p a ds
   unfolding free
   which j h e (Inside i k) q = protected j i k h q (set-bit p i (not-false (guarded p i) (sym (ap (free p) q) ∙ e)))
   which j h e Outside q = outside j h q
 
   -- P14: the cases of a program are complete
-  pub may-or-not : May p a ds ⊎ MayNot p a ds
-  may-or-not = go (decLt 0 (length ds)) (decLt 65536 (a % 65536 + length ds)) (search (λ (j : ℕ). free p (find part (a + j))) (length ds))
+  pub may-or-not : May most p a ds ⊎ MayNot most p a ds
+  may-or-not = go (decLt 0 (length ds)) (decLt most (a % 65536 + length ds)) (search (λ (j : ℕ). free p (find part (a + j))) (length ds))
     where
-      go : Dec (0 < length ds) → Dec (65536 < a % 65536 + length ds)
+      go : Dec (0 < length ds) → Dec (most < a % 65536 + length ds)
           → ((j : ℕ) → j < length ds → free p (find part (a + j)) ≡ true) ⊎ ((j : ℕ) × (j < length ds) × (free p (find part (a + j)) ≡ false))
-          → May p a ds ⊎ MayNot p a ds
+          → May most p a ds ⊎ MayNot most p a ds
       go (no h) d s = inr (none (omega arith))
       go (yes h) (yes d) s = inr (bank d)
       go (yes h) (no d) (inl f) = inl (record { some = h; bank = omega arith; free = λ j s. let w = free-found p (find part (a + j)) (f j s) in (w .0, w .1, w .2, clear-bit p (w .0) (w .3)) })

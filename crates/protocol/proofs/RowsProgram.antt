@@ -1,4 +1,4 @@
--- Both program packets come to one attempt at their address with their data, and the flash's laws say what it leaves in each case.
+-- Both program packets come to one write at their address with their data, each with its own reach, and the flash's laws say what it leaves in each case.
 use Prim.Native.Nat.{ℕ, _+_, _*_, _%_, _<_}
 use native.Mathlib.Omega.{arith}
 use mathlib.Core.Bool.{Bool, true, false, cond, false≢true}
@@ -18,7 +18,7 @@ use Rattle.flash.proofs.Effects.{program-effect, good-each, each-good}
 use Rattle.unit.specs.declared.Unit.{Unit as Port}
 use Rattle.unit.specs.Model.{withSrd, isOpen}
 use Rattle.protocol.specs.Outcome.{Outcome}
-use Rattle.protocol.specs.Endings.{nothing, reports, bankEnd, programmedBy, programs, finished}
+use Rattle.protocol.specs.Endings.{nothing, reports, bankEnd, reaching, programmedBy, programs, finished}
 use Rattle.protocol.specs.Step.{run}
 use Rattle.protocol.specs.Rows.{Ready, Ends, Kept, Programs, May, MayNot, Verified}
 use Rattle.protocol.specs.Rows.Row.{after-41, after-49}
@@ -27,10 +27,6 @@ use Rattle.protocol.specs.Rows.Verified.{equal, differs}
 use Rattle.protocol.proofs.RowsLaws.{cond-same, ends, stands, none-stands}
 use Rattle.protocol.proofs.RowsFront.{row-comes-to}
 use Rattle.protocol.proofs.RowsMay.{search, may-permitted, may-not-permitted}
-
--- what either packet attempts
-abbrev attempt : ℕ → List ℕ → ℕ → List ℕ → Written
-attempt p img a ds = cond (leb (a % 65536 + length ds) 65536) (program part p img a ds) (written img false)
 
 -- a program that is carried out
 module _ (p a : ℕ) (ds img : List ℕ) (size : sized part img ≡ true) (may : permitted part p a ds ≡ true) where
@@ -56,16 +52,16 @@ module _ (p a : ℕ) (ds img : List ℕ) (size : sized part img ≡ true) (may :
   done = program-done part p img a ds size may
 
 module _ {u : Port} (ready : Ready u) (opened : isOpen (u .registers) ≡ true) (img : List ℕ) where
-  comes : {packet : List ℕ} {a : ℕ} {ds : List ℕ} → Programs packet a ds → run u img packet ≡ programs u img (attempt (u .settings .protection) img a ds)
+  comes : {packet : List ℕ} {a : ℕ} {ds : List ℕ} {most : ℕ} → Programs packet a ds most → run u img packet ≡ programs u img (reaching most (u .settings .protection) img a ds)
   unfolding finished programmedBy bankEnd
   comes (page {mid} {high} {ds} h) =
       let e : pageAddress mid high ≡ 256 * mid + 65536 * high = omega arith in
-      row-comes-to ready img (after-41 {ds = ds} h) (inr opened) ∙ ap (λ (a : ℕ). programs u img (attempt (u .settings .protection) img a ds)) e
+      row-comes-to ready img (after-41 {ds = ds} h) (inr opened) ∙ ap (λ (a : ℕ). programs u img (reaching 65536 (u .settings .protection) img a ds)) e
   comes (bytes {low} {mid} {high} {ds} h) =
       let e : byteAddress low mid high ≡ low + 256 * mid + 65536 * high = omega arith in
-      row-comes-to ready img (after-49 {ds = ds} h) (inr opened) ∙ ap (λ (a : ℕ). programs u img (attempt (u .settings .protection) img a ds)) e
+      row-comes-to ready img (after-49 {ds = ds} h) (inr opened) ∙ ap (λ (a : ℕ). programs u img (reaching 65535 (u .settings .protection) img a ds)) e
 
-  module _ {packet : List ℕ} {a : ℕ} {ds : List ℕ} (is : Programs packet a ds) where
+  module _ {packet : List ℕ} {a : ℕ} {ds : List ℕ} {most : ℕ} (is : Programs packet a ds most) where
     -- P14: if SR4 or SR5 stands, nothing
     pub program-standing : u .registers .srd ≢ 0x80 → Ends u (u .registers) (Kept img) [] (run u img packet)
     unfolding programs
@@ -73,32 +69,32 @@ module _ {u : Port} (ready : Ready u) (opened : isOpen (u .registers) ≡ true) 
         subst (Ends u (u .registers) (Kept img) []) (sym (comes is ∙ rw (stands (u .registers) h)))
         (ends u (u .registers) (Kept img) img [] refl)
 
-    -- what is attempted is reported
-    reported : u .registers .srd ≡ 0x80 → (w : Written) → attempt (u .settings .protection) img a ds ≡ w → run u img packet ≡ reports u 0x90 w
+    -- what is written is reported
+    reported : u .registers .srd ≡ 0x80 → (w : Written) → reaching most (u .settings .protection) img a ds ≡ w → run u img packet ≡ reports u 0x90 w
     unfolding programs
     reported h w e =
         comes is
         ∙ (ap (programs u img) e ∙ ap (λ (t : Bool). cond t (nothing u img) (reports u 0x90 w)) (none-stands (u .registers) h))
 
-    -- P14: otherwise, if n is 0, or the low 16 address bits plus n exceed 65,536, or a byte lies outside or in a protected block, nothing is written and SR4 is set
-    pub program-forbidden : u .registers .srd ≡ 0x80 → MayNot (u .settings .protection) a ds → Ends u (withSrd (u .registers) 0x90) (Kept img) [] (run u img packet)
+    -- P14: otherwise, if n is 0, or the low 16 address bits plus n exceed what its packet may reach, or a byte lies outside or in a protected block, nothing is written and SR4 is set
+    pub program-forbidden : u .registers .srd ≡ 0x80 → MayNot most (u .settings .protection) a ds → Ends u (withSrd (u .registers) 0x90) (Kept img) [] (run u img packet)
     program-forbidden h m =
-        subst (Ends u (withSrd (u .registers) 0x90) (Kept img) []) (sym (reported h (written img false) (refuses (may-not-permitted (u .settings .protection) a ds m))))
+        subst (Ends u (withSrd (u .registers) 0x90) (Kept img) []) (sym (reported h (written img false) (refuses (may-not-permitted most (u .settings .protection) a ds m))))
         (ends u (withSrd (u .registers) 0x90) (Kept img) img [] refl)
       where
-        refuses : (65536 < a % 65536 + length ds) ⊎ (permitted part (u .settings .protection) a ds ≡ false) → attempt (u .settings .protection) img a ds ≡ written img false
-        refuses (inl g) = rw (lt-leb (a % 65536 + length ds) 65536 g)
-        refuses (inr g) = rw (program-refused part (u .settings .protection) img a ds g) (cond-same (leb (a % 65536 + length ds) 65536) (written img false))
+        refuses : (most < a % 65536 + length ds) ⊎ (permitted part (u .settings .protection) a ds ≡ false) → reaching most (u .settings .protection) img a ds ≡ written img false
+        refuses (inl g) = rw (lt-leb (a % 65536 + length ds) most g)
+        refuses (inr g) = rw (program-refused part (u .settings .protection) img a ds g) (cond-same (leb (a % 65536 + length ds) most) (written img false))
 
     -- P14: otherwise every byte is programmed, and SR4 is set if some byte then differs from its data
-    pub program-carried-out : length img ≡ 20480 → u .registers .srd ≡ 0x80 → May (u .settings .protection) a ds
+    pub program-carried-out : length img ≡ 20480 → u .registers .srd ≡ 0x80 → May most (u .settings .protection) a ds
         → (srd : ℕ) × Verified a ds (run u img packet .image) srd × Ends u (withSrd (u .registers) srd) (Programmed part a ds img) [] (run u img packet)
     unfolding new
     program-carried-out size h m =
         let p : ℕ = u .settings .protection in
         let s : sized part img ≡ true = true-sized part img size in
-        let g : permitted part p a ds ≡ true = may-permitted p a ds m in
-        let e : attempt p img a ds ≡ written (new p a ds img s g) (good p a ds img s g) = rw (le-leb (a % 65536 + length ds) 65536 (m .bank)) (done p a ds img s g) in
+        let g : permitted part p a ds ≡ true = may-permitted most p a ds m in
+        let e : reaching most p img a ds ≡ written (new p a ds img s g) (good p a ds img s g) = rw (le-leb (a % 65536 + length ds) most (m .bank)) (done p a ds img s g) in
         let srd : ℕ = cond (good p a ds img s g) 0x80 0x90 in
         subst (λ (o : Outcome). (srd : ℕ) × Verified a ds (o .image) srd × Ends u (withSrd (u .registers) srd) (Programmed part a ds img) [] o)
         (sym (reported h (written (new p a ds img s g) (good p a ds img s g)) e))

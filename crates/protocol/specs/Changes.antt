@@ -10,6 +10,7 @@ use Rattle.unit.specs.declared.Unit.{Unit as Port}
 use Rattle.unit.specs.declared.Phase.the-variants.{Awake}
 use Rattle.unit.specs.Phases.{Kind, need, inside}
 use Rattle.unit.specs.Phases.Kind.{page-program, unit-program, block-erase, erase-all}
+use Rattle.protocol.specs.Endings.{bankEnd}
 
 -- the address that a packet names, by what followed its command
 abbrev pub pageNamed : List ℕ → ℕ
@@ -18,15 +19,15 @@ pageNamed xs = pageAddress (getD xs 0 0) (getD xs 1 0)
 abbrev pub byteNamed : List ℕ → ℕ
 byteNamed xs = byteAddress (getD xs 0 0) (getD xs 1 0) (getD xs 2 0)
 
--- these data may be programmed from this address on: they end within the bank, and each is inside, in a block that is not protected
-pub record Permitted (p a : ℕ) (ds : List ℕ) : Type 0 where
-  pub bank : a % 65536 + length ds ≤ 65536
+-- a packet of this kind may program these data from this address on: they reach no further in their bank than it may, and each is inside, in a block that is not protected
+pub record Permitted (k : Kind) (p a : ℕ) (ds : List ℕ) : Type 0 where
+  pub bank : a % 65536 + length ds ≤ bankEnd k
   pub free : permitted part p a ds ≡ true
 
 -- a packet of this kind, with xs after its command, is carried out, and leaves the image so
 pub data Carried (p : ℕ) (img xs : List ℕ) : Kind → List ℕ → Type 0 where
-  page : Permitted p (pageNamed xs) (drop 2 xs) → Carried p img xs page-program (program part p img (pageNamed xs) (drop 2 xs) .image)
-  bytes : Permitted p (byteNamed xs) (drop 4 xs) → Carried p img xs unit-program (program part p img (byteNamed xs) (drop 4 xs) .image)
+  page : Permitted page-program p (pageNamed xs) (drop 2 xs) → Carried p img xs page-program (program part p img (pageNamed xs) (drop 2 xs) .image)
+  bytes : Permitted unit-program p (byteNamed xs) (drop 4 xs) → Carried p img xs unit-program (program part p img (byteNamed xs) (drop 4 xs) .image)
   block : getD xs 2 0 ≡ 0xD0 → free p (find part (pageNamed xs)) ≡ true → Carried p img xs block-erase (eraseBlock part p img (pageNamed xs) .image)
   all : getD xs 0 0 ≡ 0xD0 → Carried p img xs erase-all (eraseAll part p img)
 

@@ -30,10 +30,10 @@ unfoldable pub pageReply : List ℕ → List ℕ
 pageReply [] = replicate 256 0xFF
 pageReply (x ∷ xs) = x ∷ xs
 
--- how far the low 16 address bits plus the size of a program may reach, by its packet
+-- how far the low 16 address bits plus the size of a program may reach, by its packet: a page program's to 65,536, the end of the bank; a unit program's to 65,535 (document 02, Item 3), so that it leaves the bank's last byte alone
 unfoldable pub bankEnd : Kind → ℕ
 bankEnd page-program = 65536
-bankEnd unit-program = 65536
+bankEnd unit-program = 65535
 bankEnd page-read = 0
 bankEnd block-erase = 0
 bankEnd erase-all = 0
@@ -43,7 +43,7 @@ bankEnd id-check = 0
 abbrev pub reaching : ℕ → ℕ → List ℕ → ℕ → List ℕ → Written
 reaching most p img a ds = cond (leb (a % 65536 + length ds) most) (program part p img a ds) (written img false)
 
--- what a program packet writes from an address on: nothing where it reaches past the end of its bank
+-- what a program packet writes from an address on: nothing where it reaches further than its kind may
 unfoldable pub programmedBy : Kind → ℕ → List ℕ → ℕ → List ℕ → Written
 programmedBy k p img a ds = reaching (bankEnd k) p img a ds
 

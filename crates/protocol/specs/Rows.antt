@@ -90,23 +90,24 @@ pub record Page (img : List ℕ) (a : ℕ) (said : List ℕ) : Type 0 where
   pub size : length said ≡ 256
   pub bytes : (j : ℕ) → j < 256 → getD said j 0 ≡ byteAt part img (a + j)
 
--- the bytes of a program packet, with the address that it names and its data: 41, mid, high, 256 data; 49, low, mid, high, size n, n data
-pub data Programs : List ℕ → ℕ → List ℕ → Type 0 where
-  page : {mid high : ℕ} {ds : List ℕ} → length ds ≡ 256 → Programs (0x41 ∷ mid ∷ high ∷ ds) (256 * mid + 65536 * high) ds
-  bytes : {low mid high : ℕ} {ds : List ℕ} → length ds < 256 → Programs (0x49 ∷ low ∷ mid ∷ high ∷ length ds ∷ ds) (low + 256 * mid + 65536 * high) ds
+-- the bytes of a program packet, with the address that it names, its data, and how far the low 16 address bits plus their number may reach:
+-- 41, mid, high, 256 data, 65,536; 49, low, mid, high, size n, n data, 65,535 (document 02, Item 3)
+pub data Programs : List ℕ → ℕ → List ℕ → ℕ → Type 0 where
+  page : {mid high : ℕ} {ds : List ℕ} → length ds ≡ 256 → Programs (0x41 ∷ mid ∷ high ∷ ds) (256 * mid + 65536 * high) ds 65536
+  bytes : {low mid high : ℕ} {ds : List ℕ} → length ds < 256 → Programs (0x49 ∷ low ∷ mid ∷ high ∷ length ds ∷ ds) (low + 256 * mid + 65536 * high) ds 65535
 
--- a program may be carried out: there are data, they end within the 64 KiB bank, and each byte's address is in a block that is not protected
-pub record May (p a : ℕ) (ds : List ℕ) : Type 0 where
+-- a program may be carried out: there are data, the low 16 address bits plus their number reach no further than `most`, and each byte's address is in a block that is not protected
+pub record May (most p a : ℕ) (ds : List ℕ) : Type 0 where
   pub some : 0 < length ds
-  pub bank : a % 65536 + length ds ≤ 65536
+  pub bank : a % 65536 + length ds ≤ most
   pub free : (j : ℕ) → j < length ds → (i : ℕ) × (k : ℕ) × (find part (a + j) ≡ Inside i k) × (p / 2 ^ i % 2 ≡ 0)
 
--- it may not: n is 0, or the low 16 address bits plus n exceed 65,536, or a byte lies outside or in a protected block
-pub data MayNot (p a : ℕ) (ds : List ℕ) : Type 0 where
-  none : length ds ≡ 0 → MayNot p a ds
-  bank : 65536 < a % 65536 + length ds → MayNot p a ds
-  outside : (j : ℕ) → j < length ds → find part (a + j) ≡ Outside → MayNot p a ds
-  protected : (j i k : ℕ) → j < length ds → find part (a + j) ≡ Inside i k → p / 2 ^ i % 2 ≡ 1 → MayNot p a ds
+-- it may not: n is 0, or the low 16 address bits plus n exceed `most`, or a byte lies outside or in a protected block
+pub data MayNot (most p a : ℕ) (ds : List ℕ) : Type 0 where
+  none : length ds ≡ 0 → MayNot most p a ds
+  bank : most < a % 65536 + length ds → MayNot most p a ds
+  outside : (j : ℕ) → j < length ds → find part (a + j) ≡ Outside → MayNot most p a ds
+  protected : (j i k : ℕ) → j < length ds → find part (a + j) ≡ Inside i k → p / 2 ^ i % 2 ≡ 1 → MayNot most p a ds
 
 -- SRD once it was carried out, by the new image: 80, or 90 if some byte then differs from its data
 pub data Verified (a : ℕ) (ds new : List ℕ) : ℕ → Type 0 where

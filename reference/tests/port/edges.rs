@@ -1,26 +1,30 @@
 //! Edges of blocks and banks, through packets.
 
-use crate::support::{all_are, is_protected, open_over, CELLS};
+use crate::support::{all_are, is_protected, open_over, status_after, CELLS};
 use reference::sessions::{page_program, unit_program, Rig};
 
-/// First and last address of the blocks.
+/// First and last address of the blocks, for a unit program: it does not reach 0FFFF.
 const BLOCKS: [(u32, u32); 4] = [
     (0x02000, 0x027FF),
     (0x02800, 0x02FFF),
     (0x0C000, 0x0DFFF),
-    (0x0E000, 0x0FFFF),
+    (0x0E000, 0x0FFFE),
 ];
 
-/// Whether a unit program of zeros is permitted: SRD is 80 and all are written, or 90 and none.
+/// Whether a unit program of zeros over FF is permitted: SRD is 80 and these bytes alone are
+/// written, or it is 90 and none.
 fn permits(protection: u8, address: u32, len: usize) -> bool {
-    let mut rig = Rig::open(protection);
-    let before = rig.image.clone();
+    let mut rig = open_over(0xFF, protection);
     rig.feed(&unit_program(address, &vec![0; len]));
-    match rig.unit.srd {
-        0x80 => assert!((address..address + len as u32).all(|a| rig.at(a) == 0)),
-        srd => assert_eq!((srd, rig.image), (0x90, before)),
+    let permitted = rig.unit.srd == 0x80;
+    let changed = rig.image.iter().filter(|&&cell| cell != 0xFF).count();
+    if permitted {
+        assert!((address..address + len as u32).all(|a| rig.at(a) == 0));
+        assert_eq!(changed, len);
+    } else {
+        assert_eq!((rig.unit.srd, changed), (0x90, 0));
     }
-    rig.unit.srd == 0x80
+    permitted
 }
 
 /// With nothing protected, a program of this length is permitted at each of these addresses.
@@ -73,6 +77,7 @@ fn single_bytes_at_the_edges() {
     for (first, last) in BLOCKS {
         assert_permitted(1, &[first, last]);
     }
+    assert_forbidden(1, &[0x0FFFF]);
     let outside = [
         0x00000, 0x01FFF, 0x03000, 0x0BFFF, 0x10000, 0x12000, 0x1C000, 0x1FFF0, 0xFFFFFF, 0xFFDF00,
     ];
@@ -81,8 +86,8 @@ fn single_bytes_at_the_edges() {
 
 #[test]
 fn two_bytes_over_the_edges() {
-    assert_forbidden(2, &[0x01FFF, 0x02FFF, 0x0BFFF, 0x0FFFF]);
-    assert_permitted(2, &[0x027FF, 0x0DFFF, 0x0FFFE]);
+    assert_forbidden(2, &[0x01FFF, 0x02FFF, 0x0BFFF, 0x0FFFE, 0x0FFFF]);
+    assert_permitted(2, &[0x027FF, 0x0DFFF, 0x0FFFD]);
 }
 
 #[test]
@@ -102,11 +107,48 @@ fn a_protected_neighbour_stops_the_whole_program() {
 
 #[test]
 fn the_end_of_the_bank_with_255_bytes() {
-    assert_permitted(255, &[0x0FF01]);
-    assert_forbidden(255, &[0x0FF02]);
+    assert_permitted(255, &[0x0FF00]);
+    assert_forbidden(255, &[0x0FF01, 0x0FF02]);
     // A bank's end does not wrap to its beginning, nor the last address to the first.
     assert_forbidden(255, &[0xFFFFFF]);
     assert_forbidden(16, &[0xFF2000]);
+}
+
+#[test]
+fn sizes_at_0fff0() {
+    assert_permitted(0x0E, &[0x0FFF0]);
+    assert_permitted(0x0F, &[0x0FFF0]);
+    assert_forbidden(0x10, &[0x0FFF0]);
+    assert_forbidden(0x11, &[0x0FFF0]);
+}
+
+#[test]
+fn the_last_byte_of_the_bank_is_left_to_the_page_program() {
+    let mut rig = open_over(0xFF, 0);
+    let packet = unit_program(0x0FFFE, &[0x00]);
+    assert_eq!(status_after(&mut rig, &packet), [0x80, 0x0C]);
+    assert_eq!(rig.image[20_477..], [0xFF, 0x00, 0xFF]);
+    let packet = unit_program(0x0FFFF, &[0x00]);
+    assert_eq!(status_after(&mut rig, &packet), [0x90, 0x0C]);
+    assert_eq!(rig.image[20_477..], [0xFF, 0x00, 0xFF]);
+    rig.feed(&[0x50]);
+    let packet = page_program(0xFF, 0x00, 0x00);
+    assert_eq!(status_after(&mut rig, &packet), [0x80, 0x0C]);
+    assert_eq!(rig.image[20_223..20_225], [0xFF, 0x00]);
+    assert!(all_are(0x00, &rig.image[20_224..]));
+}
+
+#[test]
+fn a_size_of_0_is_an_error_at_the_end_of_the_bank_too() {
+    assert_forbidden(0, &[0x02000, 0x0FFF0, 0x0FFFE, 0x0FFFF]);
+}
+
+#[test]
+fn the_ends_of_other_banks_are_outside() {
+    for len in [0x01, 0x0E, 0x0F, 0x10, 0x11] {
+        assert_forbidden(len, &[0x1FFF0, 0x2FFF0, 0xFFFFF0]);
+    }
+    assert!(!is_inside(0xFF, 0x01));
 }
 
 #[test]

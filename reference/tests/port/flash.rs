@@ -45,10 +45,10 @@ fn no_page_outside_or_of_a_wrong_sized_image() {
     assert!(page(&[], 0x20, 0).is_empty());
 }
 
-/// The rule of document 01, byte by byte.
-fn permitted(protection: u8, address: u32, len: usize) -> bool {
+/// The rule of document 01 and Item 3, byte by byte.
+fn permitted(protection: u8, address: u32, len: usize, bank_end: u32) -> bool {
     len != 0
-        && (address as usize & 0xFFFF) + len <= 65_536
+        && (address & 0xFFFF) + len as u32 <= bank_end
         && (address..address + len as u32)
             .all(|a| block_at(a).is_some_and(|block| !is_protected(protection, block)))
 }
@@ -59,17 +59,21 @@ fn the_two_ends_speak_for_what_lies_between() {
         0x02000, 0x02800, 0x03000, 0x0C000, 0x0E000, 0x10000, 0x12000, 0x1000000,
     ];
     for seam in seams {
-        for address in (seam - 300..seam + 300).step_by(7).chain([seam - 1, seam]) {
+        let ends = [seam - 256, seam - 255, seam - 1, seam];
+        for address in (seam - 300..seam + 300).step_by(7).chain(ends) {
             for len in [0, 1, 2, 16, 17, 254, 255, 256] {
                 for protection in [0, 1, 2, 4, 8, 10, 15] {
-                    let cells = programmable(protection, address, len);
-                    let expected = permitted(protection, address, len);
-                    assert_eq!(cells.is_some(), expected);
-                    if let Some(cells) = cells {
-                        assert_eq!(Some(cells.start), offset_at(address));
-                        assert_eq!(cells.len(), len);
-                        let last = address + len as u32 - 1;
-                        assert_eq!(Some(cells.end - 1), offset_at(last));
+                    // Unit program and page program.
+                    for bank_end in [65_535, 65_536] {
+                        let cells = programmable(protection, address, len, bank_end);
+                        let expected = permitted(protection, address, len, bank_end);
+                        assert_eq!(cells.is_some(), expected);
+                        if let Some(cells) = cells {
+                            assert_eq!(Some(cells.start), offset_at(address));
+                            assert_eq!(cells.len(), len);
+                            let last = address + len as u32 - 1;
+                            assert_eq!(Some(cells.end - 1), offset_at(last));
+                        }
                     }
                 }
             }

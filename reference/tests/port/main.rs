@@ -1,4 +1,5 @@
-//! The tests of the second program: expected values typed from document 01 and CASES.md.
+//! The tests of the second program: expected values typed from document 01, Item 3 of document 02
+//! and CASES.md.
 
 mod bench;
 mod binary;

@@ -114,13 +114,14 @@ fn session_10_outside_page() {
 #[test]
 fn session_11_end_of_the_bank() {
     let mut rig = Rig::open(0);
-    let packet = unit_program(0x0FFF0, &[0; 0x10]);
+    rig.set(0x0FFFE, 0xFF);
+    let packet = unit_program(0x0FFF0, &[0; 0x0F]);
     assert_eq!(status_after(&mut rig, &packet), [0x80, 0x0C]);
-    assert!((0x0FFF0..=0x0FFFF).all(|address| rig.at(address) == 0));
-    assert_eq!(rig.at(0x0FFEF), 0x34);
+    assert!((0x0FFF0..=0x0FFFE).all(|address| rig.at(address) == 0));
+    assert_eq!((rig.at(0x0FFEF), rig.at(0x0FFFF)), (0x34, 0xFF));
     let mut rig = Rig::open(0);
     let before = rig.image.clone();
-    let packet = unit_program(0x0FFF0, &[0; 0x11]);
+    let packet = unit_program(0x0FFF0, &[0; 0x10]);
     assert_eq!(status_after(&mut rig, &packet), [0x90, 0x0C]);
     assert_eq!(rig.image, before);
 }

@@ -1,4 +1,4 @@
--- `port::packets::program_unit` meets its contract: the address, the size and the data are those parts of what has come.
+-- `port::packets::program_unit` meets its contract: the address, the size and the data are those parts of what has come, and a unit program may not reach the last byte of its bank.
 use native.Mathlib.Omega.{arith}
 use mathlib.Core.Path.{ap, sym, _∙_}
 use denote.Ref.{now}
@@ -52,7 +52,7 @@ returns c got =
     let a = c .before .before .before .before .before .before .before .before .before .before .before .before .args in
     let xs = now (a .xs) in
     c .before .before .program .ensures got
-    ∙ (ap (λ (x : ℕ). programs (whole (a .s) (a .settings) got) (now (a .image)) (reaching 65536 (a .settings .protection) (now (a .image)) x (take (4 + getD xs 3 0 - 4) (drop 4 xs)))) (c .before .before .before .before .byte-address .ensures)
+    ∙ (ap (λ (x : ℕ). programs (whole (a .s) (a .settings) got) (now (a .image)) (reaching 65535 (a .settings .protection) (now (a .image)) x (take (4 + getD xs 3 0 - 4) (drop 4 xs)))) (c .before .before .before .before .byte-address .ensures)
     ∙ sym (bytes-programmed (a .s) (a .settings) got (now (a .image)) (getD xs 3 0) xs))
 
 pub program-unit-spec : {M : Type 1} → statement M
