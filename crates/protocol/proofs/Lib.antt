@@ -6,6 +6,7 @@ pub mod Settles
 pub mod Refusals
 pub mod Runs
 pub mod Protected
+pub mod LastByte
 pub mod RowsLaws
 pub mod RowsFront
 pub mod RowsSleep
