@@ -1,4 +1,4 @@
--- The premises can be met: a history with a refused call in between, in which a permitted packet is carried out, computed on the image of the sessions; and a start's numbers.
+-- The premises can be met: a history with a refused call in between, in which a permitted packet is carried out, and one in which a page program changes 0FFFF, computed on the image of the sessions; and a start's numbers.
 use Prim.Native.Nat.{ℕ, _+_, _-_}
 use native.Mathlib.Omega.{arith}
 use mathlib.Core.Bool.{Bool, true, _&&_}
