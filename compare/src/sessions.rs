@@ -96,7 +96,7 @@ fn with_page(head: &[u8], data: &[u8], tail: &[u8]) -> Vec<u8> {
     [head, data, tail].concat()
 }
 
-/// A unit program of zeros in page 0FF00. They can stand over whatever lies there, so that 90 comes from their number alone; the reset vector is FF, so that each of them is seen.
+/// A unit program of zeros in page 0FF00. They can stand over whatever lies there, so that 90 comes from where they end; the reset vector is FF, so that each of them is seen.
 fn unit_zeros(name: &'static str, low: u8, size: u8, srd: u8) -> Session {
     let n = size as usize;
     let mut s = session(
