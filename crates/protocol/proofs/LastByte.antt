@@ -32,25 +32,26 @@ pub page-fits : (mid high : ℕ) → pageAddress mid high % 65536 + 256 ≤ bank
 unfolding bankEnd
 page-fits mid high = omega arith
 
+-- data that each lie in a block that is not protected
 module _ (p a : ℕ) (ds : List ℕ) (free : permitted part p a ds ≡ true) where
-  -- free data end at 0FFFF at the latest
+  -- they end at 0FFFF at the latest
   free-end : a + length ds ≤ 0x10000
   free-end =
       let some : 0 < length ds = permitted-some part p a ds free in
       let below : a + (length ds - 1) < 65536 = free-below p (a + (length ds - 1)) (permitted-free part p a ds free (length ds - 1) (omega arith)) in
       omega arith
 
-  -- a unit program of free data ends before 0FFFF
-  unit-end : a % 65536 + length ds ≤ bankEnd unit-program → a + length ds ≤ 0xFFFF
-  unfolding bankEnd
-  unit-end h = omega (arith, free-end, permitted-some part p a ds free)
-
-  -- the bank rule forbids a unit program of free data exactly where it would have ended with 0FFFF
+  -- the bank rule forbids a unit program of data that nothing else forbids exactly where it would end with 0FFFF
   pub forbidden-alone : (bankEnd unit-program < a % 65536 + length ds) ↔ (a + length ds ≡ 0x10000)
   unfolding bankEnd
   forbidden-alone =
       let some : 0 < length ds = permitted-some part p a ds free in
       (λ h. omega (arith, free-end), λ e. omega arith)
+
+  -- and a unit program of them that it does not forbid ends before 0FFFF
+  unit-end : a % 65536 + length ds ≤ bankEnd unit-program → a + length ds ≤ 0xFFFF
+  unfolding bankEnd
+  unit-end h = omega (arith, free-end, permitted-some part p a ds free)
 
 -- what a unit program leaves, where it is carried out
 carried-keeps : {p : ℕ} {img xs new : List ℕ} {k : Kind} → sized part img ≡ true → Carried p img xs k new → k ≡ unit-program → byteAt part new 0xFFFF ≡ byteAt part img 0xFFFF
