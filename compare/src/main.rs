@@ -134,6 +134,10 @@ fn play_sessions(commands: &Commands) -> Result<bool, String> {
         p = &p[here.len()..];
         r = &r[there.len()..];
     }
+    if !p.is_empty() || !r.is_empty() {
+        println!("sessions: bytes after the last answer");
+        good = false;
+    }
     for (who, bytes) in [("port", port), ("reference", reference)] {
         let mut rest = &bytes[..];
         for session in &sessions {

@@ -91,8 +91,8 @@ const WANTED: &[&str] = &[
     "written: place 4096",
     "written: place 12287",
     "written: place 12288",
-    "written: place 20478",
     "written: place 20479",
+    "written: up to 65535",
 ];
 
 enum Phase {
@@ -326,8 +326,11 @@ impl Watch {
         if protected {
             return "protected";
         }
+        if address % 65_536 + data.len() == most {
+            self.note(format!("written: up to {most}"));
+        }
         for (_, place) in places.into_iter().flatten() {
-            if [0, 2047, 2048, 4095, 4096, 12287, 12288, 20478, 20479].contains(&place) {
+            if [0, 2047, 2048, 4095, 4096, 12287, 12288, 20479].contains(&place) {
                 self.note(format!("written: place {place}"));
             }
         }

@@ -1,4 +1,4 @@
--- Document 02's Item 3. 0FFFF, the last byte of its bank, is place 20479 of the image. By the specification's law no byte of a unit program changes it; a page program to page 0FF00 ends with it.
+-- Document 02's Item 3. 0FFFF, the last byte of its bank, is place 20479 of the image. By the specification's law a unit program leaves it as it was; a page program to page 0FF00 ends with it.
 use Prim.Native.Nat.{ℕ, suc, _+_, _-_, _≤_, _<_}
 use native.Mathlib.Omega.{arith}
 use mathlib.Core.Path.{_≡_, ap, sym, _∙_, subst, subst⁻¹}
@@ -8,19 +8,24 @@ use lib.Bits.{bitAnd}
 use Rattle.flash.specs.Blocks.{part}
 use Rattle.flash.specs.Image.{byteAt}
 use Rattle.flash.proofs.Effects.{byte-at}
+use Rattle.unit.specs.declared.Unit.{Unit as Port}
 use Rattle.unit.specs.declared.Phase.the-variants.{Awake}
-use Rattle.unit.specs.declared.Place.the-variants.{UnitProgram}
+use Rattle.unit.specs.declared.Place.the-variants.{Command}
 use Rattle.unit.specs.declared.Inputs.{Inputs}
-use Rattle.protocol.specs.Outcome.{Outcome}
-use Rattle.protocol.proofs.LastByte.{unit-program-keeps}
+use Rattle.unit.proofs.Ranged.{in-range}
+use Rattle.protocol.specs.Step.{run}
+use Rattle.protocol.specs.Rows.{Ready}
+use Rattle.protocol.proofs.LastByte.{unit-program-keeps as run-keeps}
+use Rattle.demands.specs.Record.{Open}
 use Rattle.demands.specs.Flash.{Address, Unprotected}
 use Rattle.demands.specs.Flash.Address.{in-3}
-use Rattle.demands.specs.Histories.{Call, Entry, History, unitAfter, imageAfter, At}
+use Rattle.demands.specs.Histories.{Call, Entry, History, unitAfter, imageAfter}
 use Rattle.demands.specs.Changes.{Begins, Programmed, Carries, Permitted, bytesTo}
 use Rattle.demands.specs.Changes.Carries.{page as carries-page}
 use Rattle.demands.specs.Changes.Permitted.{page}
-use Rattle.demands.proofs.Records.{address-is}
-use Rattle.demands.proofs.Bridge.{entry-is}
+use Rattle.demands.proofs.Records.{open-is, address-is}
+use Rattle.demands.proofs.Traces.{image-onward}
+use Rattle.demands.proofs.Bridge.{stepped, sound-at, size-at}
 use Rattle.demands.proofs.Demand2.{full-effect}
 
 last-address : Address 0xFFFF 3 20479
@@ -37,14 +42,15 @@ module _ {img : List ℕ} {inputs : Inputs} {cs : List Call} (h : History img in
   abbrev es : List Entry
   es = h .trace
 
-  -- no unit program changes 0FFFF: no byte that is taken inside one does, its last among them
-  pub no-unit-program : (k : ℕ) (e : Entry) → At (h .trace) k e → (n : ℕ) → unitAfter (h .started .unit) (h .trace) k .phase ≡ Awake (UnitProgram n)
-      → getD (e .image) 20479 0 ≡ getD (imageAfter img (h .trace) k) 20479 0
-  no-unit-program k e a n f =
-      sym (last-byte (e .image))
-      ∙ (ap (λ (o : Outcome). byteAt part (o .image) 0xFFFF) (sym (entry-is h a .leads))
-      ∙ (unit-program-keeps (unitAfter (h .started .unit) es k) (imageAfter img es k) (e .byte) n f
-      ∙ last-byte (imageAfter img es k)))
+  -- no unit program changes 0FFFF: what an open unit takes as 49, low, mid, high, size n, n data leaves it as it was
+  pub unit-program-keeps : (j k : ℕ) → j ≤ k → k < length (h .trace) → unitAfter (h .started .unit) (h .trace) j .phase ≡ Awake Command → Open (unitAfter (h .started .unit) (h .trace) j)
+      → (low mid high : ℕ) (ds : List ℕ) → length ds < 256 → bytesTo (h .trace) j k ≡ 0x49 ∷ low ∷ mid ∷ high ∷ length ds ∷ ds
+      → getD (imageAfter img (h .trace) (suc k)) 20479 0 ≡ getD (imageAfter img (h .trace) j) 20479 0
+  unit-program-keeps j k after under at-command opened low mid high ds few e =
+      let u : Port = unitAfter (h .started .unit) es j in
+      let ready : Ready u = record { at-command = at-command; ranged = in-range (sound-at h j); room = sound-at h j .room } in
+      ap (λ (l : List ℕ). getD l 20479 0) (image-onward (stepped h) j (suc k - j) (suc k) (omega arith) ∙ ap (λ (l : List ℕ). run u (imageAfter img es j) l .image) e)
+      ∙ (sym (last-byte _) ∙ (run-keeps ready (open-is u .0 opened) (imageAfter img es j) (size-at h j) low mid high ds few ∙ last-byte (imageAfter img es j)))
 
   -- a page program to page 0FF00 still reaches it: it leaves old AND the last of its 256 data there
   pub page-program-reaches : (j k : ℕ) → j ≤ k → k < length (h .trace) → Begins (unitAfter (h .started .unit) (h .trace) j) → Unprotected (inputs .protection) 3

@@ -18,10 +18,11 @@ pub record Begins (u : Port) : Type 0 where
   pub opened : Open u
   pub ready : u .registers .srd ≡ 0x80
 
--- how far the low 16 address bits plus the number of data may reach: 65,536 for a page program; 65,535 for a unit program (document 02, Item 3)
+-- how far the low 16 address bits plus the number of data may reach: those of a page program to the end of the bank
 abbrev pub pageReach : ℕ
 pageReach = 65536
 
+-- those of a unit program not to the bank's last byte (document 02, Item 3)
 abbrev pub unitReach : ℕ
 unitReach = 65535
 

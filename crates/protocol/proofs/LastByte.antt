@@ -1,31 +1,25 @@
 -- Document 02's Item 3. What may be programmed ends at 0FFFF at the latest, since 10000 is outside; so a unit program, which may reach one byte less, ends before it.
-use Prim.Native.Nat.{ℕ, _+_, _-_, _%_, _≤_, _<_}
+use Prim.Native.Nat.{ℕ, _+_, _-_, _*_, _%_, _≤_, _<_}
 use native.Mathlib.Omega.{arith}
+use native.Mathlib.Decide.{ℕ-discrete}
 use mathlib.Core.Bool.{true}
-use mathlib.Core.Path.{_≡_, refl, ap, sym, _∙_}
-use mathlib.Core.Logic.{_↔_, inr}
-use mathlib.Core.List.{List}
-use lib.ListN.{length, drop}
-use Rattle.flash.specs.Blocks.{part, holds, find, sized, pageAddress}
-use Rattle.flash.specs.Image.{byteAt, Written, permitted, burnt}
+use mathlib.Core.Path.{_≡_, refl, ap}
+use mathlib.Core.Logic.{_⊎_, _↔_, inl, inr}
+use mathlib.Core.List.{List, _∷_}
+use lib.ListN.{length}
+use Rattle.flash.specs.Blocks.{part, holds, find, pageAddress}
+use Rattle.flash.specs.Image.{byteAt, permitted}
 use Rattle.flash.specs.Effects.{isInside}
-use Rattle.flash.proofs.Places.{rising}
-use Rattle.flash.proofs.Outcomes.{true-sized, program-done}
 use Rattle.flash.proofs.Permits.{free-below, permitted-some, permitted-free}
-use Rattle.flash.proofs.Effects.{program-effect}
 use Rattle.unit.specs.declared.Unit.{Unit as Port}
-use Rattle.unit.specs.declared.Phase.the-variants.{Awake}
-use Rattle.unit.specs.declared.Place.the-variants.{UnitProgram}
-use Rattle.unit.specs.Phases.{Kind, positionOf}
 use Rattle.unit.specs.Phases.Kind.{page-program, unit-program}
-use Rattle.unit.specs.Phases.Position.{within}
-use Rattle.unit.proofs.Positions.{position-inside}
+use Rattle.unit.specs.Model.{isOpen}
 use Rattle.protocol.specs.Endings.{bankEnd}
-use Rattle.protocol.specs.Step.{step}
-use Rattle.protocol.specs.Changes.{byteNamed, Carried, Change}
-use Rattle.protocol.specs.Changes.Carried.{page, bytes, block, all}
-use Rattle.protocol.specs.Changes.Change.{none, last}
-use Rattle.protocol.proofs.Changes.{changes}
+use Rattle.protocol.specs.Step.{run}
+use Rattle.protocol.specs.Rows.{Ready, May, MayNot}
+use Rattle.protocol.specs.Rows.Programs.{bytes}
+use Rattle.protocol.proofs.RowsMay.{may-permitted, may-or-not}
+use Rattle.protocol.proofs.RowsProgram.{program-standing, program-forbidden, program-carried-out}
 
 -- no page exceeds what a page program may reach: the bank rule forbids none
 pub page-fits : (mid high : ℕ) → pageAddress mid high % 65536 + 256 ≤ bankEnd page-program
@@ -53,24 +47,21 @@ module _ (p a : ℕ) (ds : List ℕ) (free : permitted part p a ds ≡ true) whe
   unfolding bankEnd
   unit-end h = omega (arith, free-end, permitted-some part p a ds free)
 
--- what a unit program leaves, where it is carried out
-carried-keeps : {p : ℕ} {img xs new : List ℕ} {k : Kind} → sized part img ≡ true → Carried p img xs k new → k ≡ unit-program → byteAt part new 0xFFFF ≡ byteAt part img 0xFFFF
-unfolding burnt isInside holds find
-carried-keeps s (page m) e = let z : _≡_ {A = ℕ} 0 1 = cc in absurd (omega arith)
-carried-keeps s (block c m) e = let z : _≡_ {A = ℕ} 0 1 = cc in absurd (omega arith)
-carried-keeps s (all c) e = let z : _≡_ {A = ℕ} 0 1 = cc in absurd (omega arith)
-carried-keeps {p} {img} {xs} s (bytes m) e =
-    let a : ℕ = byteNamed xs in
-    let ds : List ℕ = drop 4 xs in
-    ap (λ (w : Written). byteAt part (w .image) 0xFFFF) (program-done part p img a ds s (m .free))
-    ∙ program-effect part rising p a img ds s (m .free) .elsewhere 0xFFFF refl (inr (unit-end p a ds (m .free) (m .bank)))
+module _ {u : Port} (ready : Ready u) (opened : isOpen (u .registers) ≡ true) (img : List ℕ) (size : length img ≡ 20480) where
+  kept : {new : List ℕ} → new ≡ img → byteAt part new 0xFFFF ≡ byteAt part img 0xFFFF
+  kept e = ap (λ (l : List ℕ). byteAt part l 0xFFFF) e
 
--- no byte that comes inside a unit program, its last among them, changes 0FFFF
-pub unit-program-keeps : (u : Port) (img : List ℕ) (b n : ℕ) → u .phase ≡ Awake (UnitProgram n) → byteAt part (step u img b .image) 0xFFFF ≡ byteAt part img 0xFFFF
-unit-program-keeps u img b n f = go (changes u img b)
-  where
-    go : {new : List ℕ} → Change u img b new → byteAt part new 0xFFFF ≡ byteAt part img 0xFFFF
-    go (none e) = ap (λ (l : List ℕ). byteAt part l 0xFFFF) e
-    go (last d) =
-        let w : within (d .kind) (d .received) ≡ within unit-program n = sym (position-inside (d .kind) (d .received)) ∙ ap positionOf (sym (d .place) ∙ f) in
-        carried-keeps (true-sized part img (d .size)) (d .carried) cc
+  -- no unit program changes 0FFFF, whatever SRD is, and whether it may be carried out or not
+  pub unit-program-keeps : (low mid high : ℕ) (ds : List ℕ) → length ds < 256
+      → byteAt part (run u img (0x49 ∷ low ∷ mid ∷ high ∷ length ds ∷ ds) .image) 0xFFFF ≡ byteAt part img 0xFFFF
+  unfolding bankEnd isInside holds find
+  unit-program-keeps low mid high ds h = go (ℕ-discrete (u .registers .srd) 0x80) (may-or-not (bankEnd unit-program) (u .settings .protection) (low + 256 * mid + 65536 * high) ds)
+    where
+      go : Dec (u .registers .srd ≡ 0x80)
+          → May (bankEnd unit-program) (u .settings .protection) (low + 256 * mid + 65536 * high) ds ⊎ MayNot (bankEnd unit-program) (u .settings .protection) (low + 256 * mid + 65536 * high) ds
+          → byteAt part (run u img (0x49 ∷ low ∷ mid ∷ high ∷ length ds ∷ ds) .image) 0xFFFF ≡ byteAt part img 0xFFFF
+      go (no f) m = kept (program-standing ready opened img (bytes {ds = ds} h) f .image)
+      go (yes e) (inr m) = kept (program-forbidden ready opened img (bytes {ds = ds} h) e m .image)
+      go (yes e) (inl m) =
+          let w = program-carried-out ready opened img (bytes {ds = ds} h) size e m in
+          w .2 .image .elsewhere 0xFFFF refl (inr (unit-end _ _ ds (may-permitted _ _ _ ds m) (m .bank)))

@@ -6,7 +6,6 @@ pub mod Settles
 pub mod Refusals
 pub mod Runs
 pub mod Protected
-pub mod LastByte
 pub mod RowsLaws
 pub mod RowsFront
 pub mod RowsSleep
@@ -14,6 +13,7 @@ pub mod RowsShort
 pub mod RowsRead
 pub mod RowsMay
 pub mod RowsProgram
+pub mod LastByte
 pub mod RowsErase
 pub mod RowsCheck
 pub mod SessionsHold

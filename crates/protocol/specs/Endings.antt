@@ -30,7 +30,7 @@ unfoldable pub pageReply : List ℕ → List ℕ
 pageReply [] = replicate 256 0xFF
 pageReply (x ∷ xs) = x ∷ xs
 
--- how far the low 16 address bits plus the size of a program may reach, by its packet: a page program's to 65,536, the end of the bank; a unit program's to 65,535 (document 02, Item 3), so that it leaves the bank's last byte alone
+-- how far the low 16 address bits plus the size of a program may reach, by its packet: a page program to the end of its bank, a unit program not to the bank's last byte (document 02, Item 3)
 unfoldable pub bankEnd : Kind → ℕ
 bankEnd page-program = 65536
 bankEnd unit-program = 65535

@@ -91,7 +91,7 @@ pub record Page (img : List ℕ) (a : ℕ) (said : List ℕ) : Type 0 where
   pub bytes : (j : ℕ) → j < 256 → getD said j 0 ≡ byteAt part img (a + j)
 
 -- the bytes of a program packet, with the address that it names, its data, and how far the low 16 address bits plus their number may reach:
--- 41, mid, high, 256 data, 65,536; 49, low, mid, high, size n, n data, 65,535 (document 02, Item 3)
+-- 41, mid, high, 256 data, to the end of the bank; 49, low, mid, high, size n, n data, not to its last byte (document 02, Item 3)
 pub data Programs : List ℕ → ℕ → List ℕ → ℕ → Type 0 where
   page : {mid high : ℕ} {ds : List ℕ} → length ds ≡ 256 → Programs (0x41 ∷ mid ∷ high ∷ ds) (256 * mid + 65536 * high) ds 65536
   bytes : {low mid high : ℕ} {ds : List ℕ} → length ds < 256 → Programs (0x49 ∷ low ∷ mid ∷ high ∷ length ds ∷ ds) (low + 256 * mid + 65536 * high) ds 65535

@@ -1,4 +1,4 @@
-//! What several of these files build on; its values are typed from document 01 like the tests' own.
+//! What several of these files build on; its values are typed from the documents like the tests' own.
 
 use reference::sessions::Rig;
 use reference::{Command, Phase};
