@@ -118,30 +118,41 @@ fn tell_difference(seed: u64, number: usize, case: &Case, port: &[u8], reference
     }
 }
 
+/// The two programs' answers to each case, and whether bytes follow the last of them.
+fn by_case<'a>(
+    cases: &[Case],
+    mut port: &'a [u8],
+    mut reference: &'a [u8],
+) -> (Vec<(&'a [u8], &'a [u8])>, bool) {
+    let mut pairs = Vec::new();
+    for case in cases {
+        let n = case.answer_len();
+        let (p, r) = (
+            port.split_at(n.min(port.len())),
+            reference.split_at(n.min(reference.len())),
+        );
+        pairs.push((p.0, r.0));
+        (port, reference) = (p.1, r.1);
+    }
+    (pairs, !port.is_empty() || !reference.is_empty())
+}
+
 fn play_sessions(commands: &Commands) -> Result<bool, String> {
     let sessions = sessions::all();
     let cases: Vec<Case> = sessions.iter().map(|s| s.case.clone()).collect();
     let (port, reference) = commands.ask(&cases)?;
-    let mut good = true;
-    let (mut p, mut r) = (&port[..], &reference[..]);
-    for session in &sessions {
-        let n = session.case.answer_len();
-        let (here, there) = (&p[..n.min(p.len())], &r[..n.min(r.len())]);
+    let (pairs, more) = by_case(&cases, &port, &reference);
+    let mut good = !more;
+    if more {
+        println!("sessions: bytes after the last answer");
+    }
+    for (session, (here, there)) in sessions.iter().zip(pairs) {
         if here != there {
             println!("session {}: the two programs' answers differ", session.name);
             good = false;
         }
-        p = &p[here.len()..];
-        r = &r[there.len()..];
-    }
-    if !p.is_empty() || !r.is_empty() {
-        println!("sessions: bytes after the last answer");
-        good = false;
-    }
-    for (who, bytes) in [("port", port), ("reference", reference)] {
-        let mut rest = &bytes[..];
-        for session in &sessions {
-            let fault = match answer::take(&session.case, &mut rest) {
+        for (who, mut bytes) in [("port", here), ("reference", there)] {
+            let fault = match answer::take(&session.case, &mut bytes) {
                 Some(answer) => session.fault(&answer),
                 None => Some("no answer".to_string()),
             };
@@ -169,16 +180,13 @@ fn compare(commands: &Commands, count: usize, seed: u64) -> Result<bool, String>
             .map(|_| draw::case(&mut random))
             .collect();
         let (port, reference) = commands.ask(&cases)?;
-        let (mut p, mut r) = (&port[..], &reference[..]);
-        for (k, case) in cases.iter().enumerate() {
-            let n = case.answer_len();
-            let (here, there) = (&p[..n.min(p.len())], &r[..n.min(r.len())]);
+        let (pairs, more) = by_case(&cases, &port, &reference);
+        for (k, (case, (here, mut there))) in cases.iter().zip(pairs).enumerate() {
             if here != there {
                 tell_difference(seed, done + k, case, here, there);
                 return Ok(false);
             }
-            let mut bytes = there;
-            match answer::take(case, &mut bytes) {
+            match answer::take(case, &mut there) {
                 Some(answer) => watch.follow(case, &answer),
                 None => {
                     return Err(format!(
@@ -187,10 +195,8 @@ fn compare(commands: &Commands, count: usize, seed: u64) -> Result<bool, String>
                     ))
                 }
             }
-            p = &p[n..];
-            r = &r[n..];
         }
-        if !p.is_empty() || !r.is_empty() {
+        if more {
             println!("DIFFERENCE: seed {seed}, batch at case {done}: bytes after the last answer");
             return Ok(false);
         }

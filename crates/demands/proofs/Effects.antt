@@ -15,6 +15,8 @@ use Rattle.flash.specs.Effects.{Programmed as Burnt, Erased as Wiped}
 use Rattle.flash.proofs.Effects.{byte-at, found-inside}
 use Rattle.flash.proofs.Permits.{free-found, permitted-some, permitted-free}
 use Rattle.unit.specs.declared.Unit.{Unit as Port}
+use Rattle.unit.specs.declared.Phase.the-variants.{Awake}
+use Rattle.unit.specs.declared.Place.the-variants.{Command}
 use Rattle.unit.specs.Phases.{Kind}
 use Rattle.unit.specs.Phases.Kind.{page-program, unit-program, block-erase, erase-all}
 use Rattle.unit.proofs.Ranged.{Sound, in-range}
@@ -98,9 +100,12 @@ permitted-row (bytes {ds = ds} h m) = record { kind = unit-program; command = 0x
 permitted-row (block a m) = record { kind = block-erase; command = 0x20; rest = _; whole = refl; row = after-20 }
 permitted-row all = record { kind = erase-all; command = 0xA7; rest = _; whole = refl; row = after-A7 }
 
--- where a packet begins, the rows apply
+-- at a command, and so where a packet begins, the rows apply
+pub command-ready : {u : Port} → u .phase ≡ Awake Command → Sound u → Ready u
+command-ready e s = record { at-command = e; ranged = in-range s; room = s .room }
+
 pub begins-ready : {u : Port} → Begins u → Sound u → Ready u
-begins-ready b s = record { at-command = b .at-command; ranged = in-range s; room = s .room }
+begins-ready b s = command-ready (b .at-command) s
 
 -- and the packet is carried out
 pub packet-effect : {u : Port} → Begins u → Sound u → (img : List ℕ) → length img ≡ 20480 → {packet : List ℕ} → Permitted (u .settings .protection) packet

@@ -12,9 +12,7 @@ use Rattle.unit.specs.declared.Unit.{Unit as Port}
 use Rattle.unit.specs.declared.Phase.the-variants.{Awake}
 use Rattle.unit.specs.declared.Place.the-variants.{Command}
 use Rattle.unit.specs.declared.Inputs.{Inputs}
-use Rattle.unit.proofs.Ranged.{in-range}
 use Rattle.protocol.specs.Step.{run}
-use Rattle.protocol.specs.Rows.{Ready}
 use Rattle.protocol.proofs.LastByte.{unit-program-keeps as run-keeps}
 use Rattle.demands.specs.Record.{Open}
 use Rattle.demands.specs.Flash.{Address, Unprotected}
@@ -26,6 +24,7 @@ use Rattle.demands.specs.Changes.Permitted.{page}
 use Rattle.demands.proofs.Records.{open-is, address-is}
 use Rattle.demands.proofs.Traces.{image-onward}
 use Rattle.demands.proofs.Bridge.{stepped, sound-at, size-at}
+use Rattle.demands.proofs.Effects.{command-ready}
 use Rattle.demands.proofs.Demand2.{full-effect}
 
 last-address : Address 0xFFFF 3 20479
@@ -48,9 +47,8 @@ module _ {img : List ℕ} {inputs : Inputs} {cs : List Call} (h : History img in
       → getD (imageAfter img (h .trace) (suc k)) 20479 0 ≡ getD (imageAfter img (h .trace) j) 20479 0
   unit-program-keeps j k after under at-command opened low mid high ds few e =
       let u : Port = unitAfter (h .started .unit) es j in
-      let ready : Ready u = record { at-command = at-command; ranged = in-range (sound-at h j); room = sound-at h j .room } in
       ap (λ (l : List ℕ). getD l 20479 0) (image-onward (stepped h) j (suc k - j) (suc k) (omega arith) ∙ ap (λ (l : List ℕ). run u (imageAfter img es j) l .image) e)
-      ∙ (sym (last-byte _) ∙ (run-keeps ready (open-is u .0 opened) (imageAfter img es j) (size-at h j) low mid high ds few ∙ last-byte (imageAfter img es j)))
+      ∙ (sym (last-byte _) ∙ (run-keeps (command-ready at-command (sound-at h j)) (open-is u .0 opened) (imageAfter img es j) (size-at h j) low mid high ds few ∙ last-byte (imageAfter img es j)))
 
   -- a page program to page 0FF00 still reaches it: it leaves old AND the last of its 256 data there
   pub page-program-reaches : (j k : ℕ) → j ≤ k → k < length (h .trace) → Begins (unitAfter (h .started .unit) (h .trace) j) → Unprotected (inputs .protection) 3

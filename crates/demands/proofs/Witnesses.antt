@@ -129,13 +129,13 @@ pub page-history : History image (inputs 0) page-calls
 unfolding image page-calls tested all-tested
 page-history = history-exists image (inputs 0) page-calls refl (omega arith) (all-bytes page-calls refl)
 
--- 0FFFF before the last byte, and after it
-abbrev Changed : List Entry → Type 0
-Changed es = (getD (imageAfter image es 287) 20479 0 ≡ 0xFF) × (getD (imageAfter image es 288) 20479 0 ≡ 0x00)
+-- 0FFFF before that byte, and after it
+abbrev pub LastByteChanges : List Entry → Type 0
+LastByteChanges es = (getD (imageAfter image es 287) 20479 0 ≡ 0xFF) × (getD (imageAfter image es 288) 20479 0 ≡ 0x00)
 
-computed-change : Changed (entriesOf 0 (fresh image (inputs 0)) image page-calls)
+computed-change : LastByteChanges (entriesOf 0 (fresh image (inputs 0)) image page-calls)
 unfolding area page-calls image sized holds find placeOf guarded free byteAt storedId isBlank programmed permitted burnt program begun fresh phased longer ended isOpen standing commandOf need packetFits positionFits srdFits srd1Fits registersFit settingsFit inRange commands meaning needsOpen effect dropped commanded bankEnd programmedBy programs rightId isRight judged finished wakes asleep body completes inPacket stepAt step refusal byteCall runCall
 computed-change = (refl, refl)
 
-pub page-changes : (h : History image (inputs 0) page-calls) → (getD (imageAfter image (h .trace) 287) 20479 0 ≡ 0xFF) × (getD (imageAfter image (h .trace) 288) 20479 0 ≡ 0x00)
-page-changes h = subst⁻¹ Changed (trace-is h) computed-change
+pub page-changes : (h : History image (inputs 0) page-calls) → LastByteChanges (h .trace)
+page-changes h = subst⁻¹ LastByteChanges (trace-is h) computed-change

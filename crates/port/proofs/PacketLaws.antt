@@ -91,13 +91,13 @@ module _ (s : State) (t : Settings) (got img : List ℕ) where
   page-shown xs = rw (getD-take 2 xs 0 0 (omega arith), getD-take 2 xs 1 0 (omega arith))
 
   pub page-programmed : (xs : List ℕ) → finished page-program (whole s t got) img (take 258 xs)
-      ≡ programs (whole s t got) img (reaching 65536 (t .protection) img (pageAddress (getD xs 0 0) (getD xs 1 0)) (take 256 (drop 2 xs)))
-  unfolding finished programmedBy bankEnd
+      ≡ programs (whole s t got) img (reaching (bankEnd page-program) (t .protection) img (pageAddress (getD xs 0 0) (getD xs 1 0)) (take 256 (drop 2 xs)))
+  unfolding finished programmedBy
   page-programmed xs = rw (getD-take 258 xs 0 0 (omega arith), getD-take 258 xs 1 0 (omega arith), drop-take 2 258 xs)
 
   pub bytes-programmed : (m : ℕ) (xs : List ℕ) → finished unit-program (whole s t got) img (take (4 + m) xs)
-      ≡ programs (whole s t got) img (reaching 65535 (t .protection) img (byteAddress (getD xs 0 0) (getD xs 1 0) (getD xs 2 0)) (take (4 + m - 4) (drop 4 xs)))
-  unfolding finished programmedBy bankEnd
+      ≡ programs (whole s t got) img (reaching (bankEnd unit-program) (t .protection) img (byteAddress (getD xs 0 0) (getD xs 1 0) (getD xs 2 0)) (take (4 + m - 4) (drop 4 xs)))
+  unfolding finished programmedBy
   bytes-programmed m xs = rw (getD-take (4 + m) xs 0 0 (omega arith), getD-take (4 + m) xs 1 0 (omega arith), getD-take (4 + m) xs 2 0 (omega arith), drop-take 4 (4 + m) xs)
 
   pub block-erased : (xs : List ℕ) → finished block-erase (whole s t got) img (take 3 xs)

@@ -44,8 +44,11 @@ module _ (p a : ℕ) (ds : List ℕ) (free : permitted part p a ds ≡ true) whe
 
   -- and a unit program of them that it does not forbid ends before 0FFFF
   unit-end : a % 65536 + length ds ≤ bankEnd unit-program → a + length ds ≤ 0xFFFF
-  unfolding bankEnd
-  unit-end h = omega (arith, free-end, permitted-some part p a ds free)
+  unit-end h = go (ℕ-discrete (a + length ds) 0x10000)
+    where
+      go : Dec (a + length ds ≡ 0x10000) → a + length ds ≤ 0xFFFF
+      go (yes e) = absurd (omega (arith, forbidden-alone .1 e))
+      go (no f) = omega (arith, free-end, f)
 
 module _ {u : Port} (ready : Ready u) (opened : isOpen (u .registers) ≡ true) (img : List ℕ) (size : length img ≡ 20480) where
   kept : {new : List ℕ} → new ≡ img → byteAt part new 0xFFFF ≡ byteAt part img 0xFFFF

@@ -16,6 +16,7 @@ use Rattle.flash.proofs.Places.{rising}
 use Rattle.flash.proofs.Outcomes.{true-sized, program-refused, program-done}
 use Rattle.flash.proofs.Effects.{program-effect, good-each, each-good}
 use Rattle.unit.specs.declared.Unit.{Unit as Port}
+use Rattle.unit.specs.Phases.Kind.{page-program, unit-program}
 use Rattle.unit.specs.Model.{withSrd, isOpen}
 use Rattle.protocol.specs.Outcome.{Outcome}
 use Rattle.protocol.specs.Endings.{nothing, reports, bankEnd, reaching, programmedBy, programs, finished}
@@ -56,10 +57,10 @@ module _ {u : Port} (ready : Ready u) (opened : isOpen (u .registers) ≡ true) 
   unfolding finished programmedBy bankEnd
   comes (page {mid} {high} {ds} h) =
       let e : pageAddress mid high ≡ 256 * mid + 65536 * high = omega arith in
-      row-comes-to ready img (after-41 {ds = ds} h) (inr opened) ∙ ap (λ (a : ℕ). programs u img (reaching 65536 (u .settings .protection) img a ds)) e
+      row-comes-to ready img (after-41 {ds = ds} h) (inr opened) ∙ ap (λ (a : ℕ). programs u img (reaching (bankEnd page-program) (u .settings .protection) img a ds)) e
   comes (bytes {low} {mid} {high} {ds} h) =
       let e : byteAddress low mid high ≡ low + 256 * mid + 65536 * high = omega arith in
-      row-comes-to ready img (after-49 {ds = ds} h) (inr opened) ∙ ap (λ (a : ℕ). programs u img (reaching 65535 (u .settings .protection) img a ds)) e
+      row-comes-to ready img (after-49 {ds = ds} h) (inr opened) ∙ ap (λ (a : ℕ). programs u img (reaching (bankEnd unit-program) (u .settings .protection) img a ds)) e
 
   module _ {packet : List ℕ} {a : ℕ} {ds : List ℕ} {most : ℕ} (is : Programs packet a ds most) where
     -- P14: if SR4 or SR5 stands, nothing

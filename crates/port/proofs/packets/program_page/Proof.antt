@@ -4,7 +4,8 @@ use denote.Ref.{now}
 use Prim.Native.Nat.{ℕ}
 use lib.ListN.{take, drop}
 use Rattle.unit.specs.Model.{whole}
-use Rattle.protocol.specs.Endings.{reaching, programs}
+use Rattle.unit.specs.Phases.Kind.{page-program}
+use Rattle.protocol.specs.Endings.{bankEnd, reaching, programs}
 use Rattle.port.proofs.PacketLaws.{page-programmed}
 use borrow.Author.Needs.{needs}
 use Rattle.port.proofs.packets.program_page.Statement.{statement}
@@ -35,11 +36,12 @@ same-length : tie.Need-same-length
 same-length c = search needs
 
 returns : tie.Need-returns
+unfolding bankEnd
 returns c got =
     let a = c .before .before .before .before .before .before .before .before .before .before .args in
     let xs = now (a .xs) in
     c .before .before .program .ensures got
-    ∙ (ap (λ (x : ℕ). programs (whole (a .s) (a .settings) got) (now (a .image)) (reaching 65536 (a .settings .protection) (now (a .image)) x (take 256 (drop 2 xs)))) (c .before .before .before .before .page-address .ensures)
+    ∙ (ap (λ (x : ℕ). programs (whole (a .s) (a .settings) got) (now (a .image)) (reaching (bankEnd page-program) (a .settings .protection) (now (a .image)) x (take 256 (drop 2 xs)))) (c .before .before .before .before .page-address .ensures)
     ∙ sym (page-programmed (a .s) (a .settings) got (now (a .image)) xs))
 
 pub program-page-spec : {M : Type 1} → statement M

@@ -5,7 +5,8 @@ use denote.Ref.{now}
 use Prim.Native.Nat.{ℕ, _+_, _-_}
 use lib.ListN.{getD, take, drop}
 use Rattle.unit.specs.Model.{whole}
-use Rattle.protocol.specs.Endings.{reaching, programs}
+use Rattle.unit.specs.Phases.Kind.{unit-program}
+use Rattle.protocol.specs.Endings.{bankEnd, reaching, programs}
 use Rattle.port.proofs.PacketLaws.{bytes-programmed}
 use borrow.Author.Needs.{needs}
 use Rattle.port.proofs.packets.program_unit.Statement.{statement}
@@ -48,11 +49,12 @@ same-length : tie.Need-same-length
 same-length c = search needs
 
 returns : tie.Need-returns
+unfolding bankEnd
 returns c got =
     let a = c .before .before .before .before .before .before .before .before .before .before .before .before .args in
     let xs = now (a .xs) in
     c .before .before .program .ensures got
-    ∙ (ap (λ (x : ℕ). programs (whole (a .s) (a .settings) got) (now (a .image)) (reaching 65535 (a .settings .protection) (now (a .image)) x (take (4 + getD xs 3 0 - 4) (drop 4 xs)))) (c .before .before .before .before .byte-address .ensures)
+    ∙ (ap (λ (x : ℕ). programs (whole (a .s) (a .settings) got) (now (a .image)) (reaching (bankEnd unit-program) (a .settings .protection) (now (a .image)) x (take (4 + getD xs 3 0 - 4) (drop 4 xs)))) (c .before .before .before .before .byte-address .ensures)
     ∙ sym (bytes-programmed (a .s) (a .settings) got (now (a .image)) (getD xs 3 0) xs))
 
 pub program-unit-spec : {M : Type 1} → statement M
