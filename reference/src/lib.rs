@@ -1,4 +1,4 @@
-//! An ordinary Rust port of the serial boot protocol: document 01's base, with Item 3 of
+//! An ordinary Rust port of the serial boot protocol: document 01's base, with Items 3 and 5 of
 //! document 02.
 //!
 //! The port itself is [`start`], [`byte`] and [`run`] over a [`Unit`] and the caller's flash
@@ -16,4 +16,6 @@ pub mod sessions;
 mod unit;
 
 pub use port::{byte, run, start, Answer, REPLY_ROOM};
-pub use unit::{srd, srd1, Collected, Command, Phase, Unit, COLLECTED_LEN, WAKE_ZEROS};
+pub use unit::{
+    srd, srd1, Collected, Command, Phase, Unit, COLLECTED_LEN, MISMATCHES_MAX, WAKE_ZEROS,
+};

@@ -1,7 +1,7 @@
 //! The calls: start, one byte, a run of bytes.
 
 use crate::flash::{self, Image, PAGE_LEN};
-use crate::unit::{srd, srd1, Command, Phase, Unit, WAKE_ZEROS};
+use crate::unit::{srd, srd1, Command, Phase, Unit, MISMATCHES_MAX, WAKE_ZEROS};
 use std::ops::Range;
 
 /// Reply area that every byte must find, whatever it replies: the longest reply, a page.
@@ -188,14 +188,8 @@ fn act(unit: &mut Unit, image: &mut Image, reply: &mut Reply, command: Command) 
             }
         }
         Command::IdCheck => {
-            let given = &unit.collected[4..4 + usize::from(c3)];
-            let right =
-                flash::address(c0, c1, c2) == flash::ID_ADDRESS && flash::is_id(image, given);
-            unit.srd1 = if unit.blank || right {
-                srd1::MATCH
-            } else {
-                srd1::MISMATCH
-            };
+            let (address, given) = (flash::address(c0, c1, c2), 4..4 + usize::from(c3));
+            check_id(unit, image, address, given);
         }
     }
     0
@@ -231,6 +225,23 @@ fn erase_goes_on(unit: &mut Unit, confirm: u8) -> bool {
         return false;
     }
     true
+}
+
+/// Opens or closes a unit that did not start blank, by the ID given at these collected places, and
+/// counts a wrong one.
+fn check_id(unit: &mut Unit, image: &Image, address: u32, given: Range<usize>) {
+    if unit.blank {
+        return;
+    }
+    let right = address == flash::ID_ADDRESS && flash::is_id(image, &unit.collected[given]);
+    if !right {
+        unit.mismatches = MISMATCHES_MAX.min(unit.mismatches + 1);
+    }
+    unit.srd1 = if right && !unit.is_locked() {
+        srd1::MATCH
+    } else {
+        srd1::MISMATCH
+    };
 }
 
 /// Writes a short reply to the front of the area.

@@ -1,8 +1,8 @@
-//! The unit record of the case format: 267 bytes.
+//! The unit record of the case format: 268 bytes.
 
 use crate::unit::{Command, Phase, Unit, COLLECTED_LEN};
 
-pub const RECORD_LEN: usize = 267;
+pub const RECORD_LEN: usize = 268;
 pub type Record = [u8; RECORD_LEN];
 
 const ASLEEP: u8 = 0x00;
@@ -16,17 +16,18 @@ pub fn encode(unit: &Unit) -> Record {
         Phase::AtCommand => (AT_COMMAND, 0),
         Phase::InPacket { command, received } => (command.byte(), received),
     };
-    let [count_low, count_high] = count.to_le_bytes();
+    let [low, high] = count.to_le_bytes();
     let mut record = [0; RECORD_LEN];
     record[..HEAD_LEN].copy_from_slice(&[
         tag,
-        count_low,
-        count_high,
+        low,
+        high,
         unit.srd,
         unit.srd1,
         u8::from(unit.blank),
         unit.protection,
         unit.rate,
+        unit.mismatches,
     ]);
     record[HEAD_LEN..].copy_from_slice(&unit.collected);
     record
@@ -35,9 +36,8 @@ pub fn encode(unit: &Unit) -> Record {
 /// The unit of a record, in range or not; none for a record that no unit has (an unknown tag, a
 /// count at a command, a blank byte over 1).
 pub fn decode(record: &Record) -> Option<Unit> {
-    let &[tag, count_low, count_high, srd, srd1, blank, protection, rate, ref collected @ ..] =
-        record;
-    let count = u16::from_le_bytes([count_low, count_high]);
+    let [tag, low, high, srd, srd1, blank, protection, rate, mismatches, collected @ ..] = *record;
+    let count = u16::from_le_bytes([low, high]);
     let phase = match tag {
         ASLEEP => Phase::Asleep { zeros: count },
         AT_COMMAND if count == 0 => Phase::AtCommand,
@@ -58,6 +58,7 @@ pub fn decode(record: &Record) -> Option<Unit> {
         blank,
         protection,
         rate,
-        collected: *collected,
+        mismatches,
+        collected,
     })
 }

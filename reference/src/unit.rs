@@ -21,6 +21,9 @@ pub mod srd1 {
 /// Zeros that an asleep unit counts before B0 wakes it.
 pub const WAKE_ZEROS: u16 = 16;
 
+/// Wrong ID checks that are counted; after so many no ID packet opens the unit.
+pub const MISMATCHES_MAX: u8 = 3;
+
 pub const COLLECTED_LEN: usize = 259;
 pub type Collected = [u8; COLLECTED_LEN];
 
@@ -99,6 +102,8 @@ pub struct Unit {
     /// Bit i set: block i is protected.
     pub protection: u8,
     pub rate: u8,
+    /// Wrong ID checks since start, at most [`MISMATCHES_MAX`].
+    pub mismatches: u8,
     pub collected: Collected,
 }
 
@@ -123,12 +128,19 @@ impl Unit {
             blank: false,
             protection: 0,
             rate: 0,
+            mismatches: 0,
             collected: [0; COLLECTED_LEN],
         }
     }
 
     pub const fn is_open(&self) -> bool {
         self.srd1 == srd1::MATCH
+    }
+
+    /// Whether no ID packet can open the unit any more. It need not be closed: a hand-made one is
+    /// open until its next ID packet.
+    pub const fn is_locked(&self) -> bool {
+        self.mismatches == MISMATCHES_MAX
     }
 
     /// Whether SR4 or SR5 stands.
@@ -149,8 +161,9 @@ impl Unit {
         phase
             && self.srd & !(srd::ERASE_ERROR | srd::PROGRAM_ERROR) == srd::READY
             && matches!(self.srd1, srd1::NOT_CHECKED | srd1::MISMATCH | srd1::MATCH)
-            && (self.is_open() || !self.blank)
+            && (!self.blank || self.is_open() && self.mismatches == 0)
             && self.protection <= 15
             && self.rate <= 4
+            && self.mismatches <= MISMATCHES_MAX
     }
 }

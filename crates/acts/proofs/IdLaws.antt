@@ -1,13 +1,13 @@
--- The right ID packet: the list that it is, and SRD1 after it.
+-- The right ID packet: the list that it is, and the registers after a check, by what is known of it.
 use Prim.Native.Nat.{ℕ}
 use mathlib.Core.Bool.{Bool, true, false, cond}
 use mathlib.Core.Path.{_≡_, refl, ap, sym}
 use mathlib.Core.List.{List, [], _∷_, map}
 use lib.ListN.{getD, replicate}
-use Rattle.slices.specs.Lists.{same}
 use Rattle.flash.specs.Blocks.{part, sized}
 use Rattle.flash.specs.Image.{byteAt, idAddresses, storedId}
-use Rattle.protocol.specs.Endings.{rightId, isRight, judged}
+use Rattle.unit.specs.declared.Registers.{Registers}
+use Rattle.protocol.specs.Endings.{rightId, afterCheck}
 
 -- the first seven bytes of a list, one by one
 abbrev pub seven : List ℕ → List ℕ
@@ -27,11 +27,6 @@ pub right-bytes : (img l : List ℕ) → l ≡ storedId part img → 0xDF ∷ 0x
 unfolding rightId
 right-bytes img l e = rw e (ap (λ (s : List ℕ). 0xDF ∷ 0xFF ∷ 0x00 ∷ 0x07 ∷ s) (sym (id-bytes img)))
 
--- SRD1 of a unit that started blank, and of one that did not
-pub judged-blank : (blank : Bool) (img xs : List ℕ) → blank ≡ true → 0x0C ≡ judged blank img xs
-unfolding judged
-judged-blank blank img xs e = rw e
-
-pub judged-by : (blank : Bool) (img xs : List ℕ) (q : Bool) → blank ≡ false → same xs (rightId img) ≡ q → cond q 0x0C 0x04 ≡ judged blank img xs
-unfolding judged isRight
-judged-by blank img xs q e f = rw (e, f)
+-- a packet is right or not: what the code has found out of the unit and of the packet decides the registers after the check
+pub check-is : {b c q s : Bool} (r : Registers) → b ≡ c → q ≡ s → afterCheck c r s ≡ afterCheck b r q
+check-is r e f = rw (e, f)

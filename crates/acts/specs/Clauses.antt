@@ -10,9 +10,9 @@ use Rattle.flash.specs.Image.{written, pagePart, eraseBlock, eraseAll}
 use Rattle.unit.specs.declared.Registers.{Registers}
 use Rattle.unit.specs.declared.Settings.{Settings}
 use Rattle.unit.specs.declared.State.{State}
-use Rattle.unit.specs.Model.{whole, atCommand, noBytes, withSrd, withSrd1, standing}
+use Rattle.unit.specs.Model.{whole, atCommand, noBytes, withSrd, standing}
 use Rattle.protocol.specs.Outcome.{Outcome, quiet}
-use Rattle.protocol.specs.Endings.{pageReply, reaching, programs, erases, judged}
+use Rattle.protocol.specs.Endings.{pageReply, reaching, programs, erases, isRight, afterCheck}
 
 -- the packet has ended: the unit is at a command with these registers, nothing is collected, and this is its image
 abbrev pub afterPacket : Settings → Registers → List ℕ → Outcome
@@ -33,9 +33,9 @@ abbrev pub EraseAllEnsures : State → Settings → List ℕ → ℕ → Registe
 EraseAllEnsures s t img confirm r img′ =
     (got : List ℕ) → afterPacket t r img′ ≡ erases (whole s t got) img confirm (written (eraseAll part (t .protection) img) true)
 
--- an ID check changes SRD1 alone
+-- an ID check changes SRD1 and the count of wrong ones
 abbrev pub CheckIdEnsures : Registers → Settings → List ℕ → List ℕ → Registers → Type 0
-CheckIdEnsures r₀ t img xs r = r ≡ withSrd1 r₀ (judged (t .blank) img xs)
+CheckIdEnsures r₀ t img xs r = r ≡ afterCheck (t .blank) r₀ (isRight img xs)
 
 -- a page's reply, at the front of an area
 abbrev pub ShowPageEnsures : List ℕ → List ℕ → ℕ → ℕ → List ℕ → Type 0

@@ -4,13 +4,12 @@ use unit::Settings;
 use unit::State;
 use unit::Unit;
 ghost use mathlib.Core.Path.{_≡_};
-ghost use mathlib.Core.Bool.{cond};
-ghost use Prim.Native.Nat.{_+_, _%_};
+ghost use mathlib.Core.Bool.{true, false, cond};
+ghost use Prim.Native.Nat.{suc, min, _+_, _%_};
 ghost use lib.Dec.{leb};
-ghost use Rattle.slices.specs.Lists.{same};
 ghost use Rattle.flash.specs.Image.{written};
 ghost use Rattle.unit.specs.Model.{withSrd};
-ghost use Rattle.protocol.specs.Endings.{reaching, rightId};
+ghost use Rattle.protocol.specs.Endings.{reaching, isRight, afterCheck};
 ghost use Rattle.acts.specs.Clauses.{ProgramEnsures, EraseEnsures, EraseAllEnsures, CheckIdEnsures, ShowPageEnsures, carries, unconfirmed};
 
 // SRD ready, or ready and this error.
@@ -111,7 +110,7 @@ pub fn erase_all(s: State, settings: Settings, image: &mut [u8], confirm: u8) ->
 
 // What followed F5 is what follows it in the right ID packet.
 fn is_right(image: &[u8], xs: &[u8]) -> bool
-    ensures { λ r. ⌜ r ≡ same (now (xs .entry)) (rightId (now (image .entry))) ⌝ }
+    ensures { λ r. ⌜ r ≡ isRight (now (image .entry)) (now (xs .entry)) ⌝ }
 {
     let id = flash::id(image);
     let right = [
@@ -130,6 +129,35 @@ fn is_right(image: &[u8], xs: &[u8]) -> bool
     slices::is_same(xs, &right)
 }
 
+// The count of wrong ID checks after one more.
+fn one_more(wrong: u8) -> u8
+    ensures { λ r. ⌜ r ≡ min 3 (suc wrong) ⌝ }
+{
+    if wrong < Unit::MAX_MISMATCHES {
+        return wrong + 1;
+    }
+    Unit::MAX_MISMATCHES
+}
+
+// The registers after the right ID packet: it opens the unit, but not after so many wrong ones.
+fn matched(registers: Registers) -> Registers
+    ensures { λ r. ⌜ r ≡ afterCheck false registers true ⌝ }
+{
+    if registers.mismatches < Unit::MAX_MISMATCHES {
+        return registers.with_srd1(Unit::MATCH);
+    }
+    registers.with_srd1(Unit::MISMATCH)
+}
+
+// The registers after any other: it closes the unit, and counts.
+fn mismatched(registers: Registers) -> Registers
+    ensures { λ r. ⌜ r ≡ afterCheck false registers false ⌝ }
+{
+    let wrong = one_more(registers.mismatches);
+    let closed = registers.with_srd1(Unit::MISMATCH);
+    closed.with_mismatches(wrong)
+}
+
 // An ID check whose bytes after F5 are `xs`.
 pub fn check_id(registers: Registers, settings: Settings, image: &[u8], xs: &[u8]) -> Registers
     ensures { λ r. ⌜ CheckIdEnsures registers settings (now (image .entry)) (now (xs .entry)) r ⌝ }
@@ -138,9 +166,9 @@ pub fn check_id(registers: Registers, settings: Settings, image: &[u8], xs: &[u8
         return registers.with_srd1(Unit::MATCH);
     }
     if is_right(image, xs) {
-        return registers.with_srd1(Unit::MATCH);
+        return matched(registers);
     }
-    registers.with_srd1(Unit::MISMATCH)
+    mismatched(registers)
 }
 
 // A page at the front of the reply area, or 256 bytes FF for an outside one.

@@ -32,6 +32,13 @@ pub record Seen (v : View) (u : Port) : Type 0 where
   pub registers : u .registers ≡ v .registers
   pub collected : u .collected ≡ v .collected
 
+-- two outcomes that cannot be told apart
+pub record Alike (o o′ : Outcome) : Type 0 where
+  pub reply : o .reply ≡ o′ .reply
+  pub phase : o .unit .phase ≡ o′ .unit .phase
+  pub registers : o .unit .registers ≡ o′ .unit .registers
+  pub collected : o .unit .collected ≡ o′ .unit .collected
+
 -- an outcome: the image as it was, this reply, and a unit with this view
 pub record After (img : List ℕ) (w : View) (said : List ℕ) (o : Outcome) : Type 0 where
   pub image : o .image ≡ img
@@ -63,11 +70,16 @@ Opened v = v .registers .srd1 ≡ 0x0C
 abbrev pub Closed : View → Type 0
 Closed v = v .registers .srd1 ≢ 0x0C
 
--- between two pieces of a log: closed, in this phase, and nothing collected
-pub record At (f : Phase) (v : View) : Type 0 where
+-- so many wrong ID checks were counted
+abbrev pub Counted : ℕ → View → Type 0
+Counted n v = v .registers .mismatches ≡ n
+
+-- between two pieces of a log: closed, in this phase, so many wrong ID checks counted, and nothing collected
+pub record At (f : Phase) (n : ℕ) (v : View) : Type 0 where
   pub phase : v .phase ≡ f
   pub collected : v .collected ≡ noBytes
   pub closed : Closed v
+  pub counted : Counted n v
 
 pub seen-shut : {v : View} {u : Port} → Closed v → Seen v u → Open u → ⊥
 seen-shut c s o = c (ap (λ (r : Registers). r .srd1) (sym (s .registers)) ∙ o)
@@ -127,6 +139,9 @@ module _ {i : List ℕ} {v : View} where
               after = subst (After img w said) (sym (run-one u img b)) (law u img size sound seen);
             };
       }
+
+  pub weaken : {P Q : View → Type 0} {bs : List ℕ} → ((w : View) → P w → Q w) → Comes i v P bs → Comes i v Q bs
+  weaken f c = record { view = c .view; said = c .said; is = f (c .view) (c .is); leads = c .leads }
 
   -- first these bytes, then those
   pub then : {P Q : View → Type 0} {xs ys : List ℕ} → Comes i v P xs → ((w : View) → P w → Comes i w Q ys) → Comes i v Q (xs ++ ys)

@@ -1,10 +1,10 @@
 -- At a command, while closed: any byte but F5 is dropped or answered and leaves the unit closed; F5 and what follows it is stored up to its last byte,
--- which opens the unit where it completes the right packet and leaves it closed where it completes another.
-use Prim.Native.Nat.{ℕ, zero, suc, _+_, _-_, _≤_, _<_}
+-- which opens the unit where it completes the right packet and fewer than three wrong ones were counted, and leaves it closed and counts where it completes another.
+use Prim.Native.Nat.{ℕ, zero, suc, min, _+_, _-_, _≤_, _<_}
 use native.Mathlib.Omega.{arith}
 use native.Mathlib.Decide.{ℕ-discrete}
-use mathlib.Core.Bool.{Bool, true, false, not, _||_, false≢true}
-use mathlib.Core.Logic.{_≢_, inl}
+use mathlib.Core.Bool.{true, false, false≢true}
+use mathlib.Core.Logic.{_≢_, inl, inr}
 use mathlib.Core.Path.{_≡_, refl, ap, ap₂, sym, _∙_, subst}
 use mathlib.Core.List.{List, [], _∷_, _++_}
 use lib.ListN.{length, take, drop, getD, replicate, length-append, length-replicate}
@@ -12,6 +12,7 @@ use lib.Seq.{take-append-le, take-append-seam}
 use borrow.Author.Tests.{ne-eqb}
 use Rattle.packets.specs.Pieces.{Each as EachPiece, Packet, lone, check, packetBytes, Unfinished, right, joined}
 use Rattle.packets.specs.Readings.{Wrong}
+use Rattle.packets.specs.Counts.{checks}
 use Rattle.slices.specs.Lists.{Each, Bytes}
 use Rattle.flash.specs.Blocks.{find, holds, placeOf}
 use Rattle.flash.specs.Image.{byteAt}
@@ -23,10 +24,10 @@ use Rattle.unit.specs.declared.Place.the-variants.{Command, IdCheck}
 use Rattle.unit.specs.Phases.{need, commandOf}
 use Rattle.unit.specs.Phases.Kind.{id-check}
 use Rattle.unit.specs.Model.{noBytes, withRate, withSrd1, isOpen}
-use Rattle.unit.proofs.Ranged.{Sound, in-range, settings-open}
+use Rattle.unit.proofs.Ranged.{Sound, in-range, BlankRule, settings-blank}
 use Rattle.protocol.specs.Outcome.{Outcome}
 use Rattle.protocol.specs.Step.{step, run}
-use Rattle.protocol.specs.Rows.{Ready, Dropped, Partway, Ends, Kept, Row, Guarded, rightPacket}
+use Rattle.protocol.specs.Rows.{Ready, Dropped, Partway, Ends, Kept, Row, Guarded, rightPacket, afterWrong}
 use Rattle.protocol.specs.Rows.Row.{after-F5}
 use Rattle.protocol.specs.Rows.Guarded.{drops-FF, drops-41, drops-49, drops-20, drops-A7, drops-50}
 use Rattle.protocol.proofs.RowsFront.{every-packet, front}
@@ -34,7 +35,7 @@ use Rattle.protocol.proofs.RowsShort.{row-70, row-FB, row-B0-to-B4, row-00, clo
 use Rattle.protocol.proofs.RowsCheck.{check-right, check-wrong}
 use Rattle.demands.specs.Record.{Open}
 use Rattle.demands.specs.Flash.{ids}
-use Rattle.demands.proofs.Calm.{View, Seen, After, ShutWithin, Passes, Comes, Opened, At, seen-shut, none, one, then}
+use Rattle.demands.proofs.Calm.{View, Seen, After, ShutWithin, Passes, Comes, Opened, Counted, At, seen-shut, none, one, then}
 
 -- what holds of each of some numbers, and of a number that is none of them, holds of every number
 by-cases : (P : ℕ → Type 0) (b : ℕ) (cs : List ℕ) → Each P cs → (Each (λ (c : ℕ). b ≢ c) cs → P b) → P b
@@ -50,7 +51,7 @@ abbrev commanding : Registers → View
 commanding r = record { phase = Awake Command; registers = r; collected = noBytes }
 
 -- a unit with such a view
-module _ {v : View} {u : Port} (a : At (Awake Command) v) (sound : Sound u) (seen : Seen v u) where
+module _ {c : ℕ} {v : View} {u : Port} (a : At (Awake Command) c v) (sound : Sound u) (seen : Seen v u) where
   ready : Ready u
   ready = record { at-command = seen .phase ∙ a .phase; ranged = in-range sound; room = sound .room }
 
@@ -59,11 +60,14 @@ module _ {v : View} {u : Port} (a : At (Awake Command) v) (sound : Sound u) (see
   closed = ne-eqb (u .registers .srd1) 0x0C (seen-shut (a .closed) seen)
 
   not-blank : u .settings .blank ≡ false
-  not-blank = go (u .settings .blank) (isOpen (u .registers)) closed (settings-open (u .settings) (u .registers) (sound .settings))
+  not-blank = go (settings-blank (u .settings) (u .registers) (sound .settings))
     where
-      go : (b o : Bool) → o ≡ false → (not b || o) ≡ true → b ≡ false
-      go true o e f = absurd (false≢true (sym e ∙ f))
-      go false o e f = refl
+      go : BlankRule (u .settings) (u .registers) → u .settings .blank ≡ false
+      go (inl e) = e
+      go (inr (o, z)) = absurd (false≢true (sym closed ∙ o))
+
+  count : u .registers .mismatches ≡ c
+  count = ap (λ (r : Registers). r .mismatches) (seen .registers) ∙ a .counted
 
   dropped : {img : List ℕ} {o : Outcome} → Dropped u img o → After img v [] o
   dropped d = record { image = d .image; reply = d .reply; seen = subst (Seen v) (sym (d .unit)) seen }
@@ -88,28 +92,28 @@ _also_ : {A B : Type 0} → A → B → A × B
 x also y = (x, y)
 
 -- any byte but F5 leaves it at a command
-abbrev Leaves : List ℕ → View → ℕ → Type 0
-Leaves i v b = b ≢ 0xF5 → Comes i v (At (Awake Command)) (b ∷ [])
+abbrev Leaves : List ℕ → ℕ → View → ℕ → Type 0
+Leaves i c v b = b ≢ 0xF5 → Comes i v (At (Awake Command) c) (b ∷ [])
 
-module _ {i : List ℕ} {v : View} (a : At (Awake Command) v) where
-  drops : {b : ℕ} → ((u : Port) (img : List ℕ) → Ready u → isOpen (u .registers) ≡ false → Dropped u img (step u img b)) → Leaves i v b
+module _ {i : List ℕ} {c : ℕ} {v : View} (a : At (Awake Command) c v) where
+  drops : {b : ℕ} → ((u : Port) (img : List ℕ) → Ready u → isOpen (u .registers) ≡ false → Dropped u img (step u img b)) → Leaves i c v b
   drops law n = one v [] a (a .closed) (λ u img size sound seen. dropped a sound seen (law u img (ready a sound seen) (closed a sound seen)))
 
-  guarded : {b : ℕ} → Guarded b → Leaves i v b
+  guarded : {b : ℕ} → Guarded b → Leaves i c v b
   guarded g = drops (λ u img ready shut. closed-drops ready img g shut)
 
-  answers : {b : ℕ} (f : Registers → Registers) (said : Registers → List ℕ) → f (v .registers) .srd1 ≡ v .registers .srd1
-      → ((u : Port) (img : List ℕ) → Ready u → Ends u (f (u .registers)) (Kept img) (said (u .registers)) (step u img b)) → Leaves i v b
-  answers f said e law n =
-      one (commanding (f (v .registers))) (said (v .registers)) (record { phase = refl; collected = refl; closed = λ o. a .closed (sym e ∙ o) }) (a .closed)
+  answers : {b : ℕ} (f : Registers → Registers) (said : Registers → List ℕ) → f (v .registers) .srd1 ≡ v .registers .srd1 → f (v .registers) .mismatches ≡ v .registers .mismatches
+      → ((u : Port) (img : List ℕ) → Ready u → Ends u (f (u .registers)) (Kept img) (said (u .registers)) (step u img b)) → Leaves i c v b
+  answers f said e k law n =
+      one (commanding (f (v .registers))) (said (v .registers)) (record { phase = refl; collected = refl; closed = λ o. a .closed (sym e ∙ o); counted = k ∙ a .counted }) (a .closed)
       (λ u img size sound seen. ended a sound seen f said (law u img (ready a sound seen)))
 
-  rates : (n : ℕ) → n ≤ 4 → Leaves i v (0xB0 + n)
-  rates n h = answers (λ r. withRate r n) (λ r. (0xB0 + n) ∷ []) refl (λ u img ready. row-B0-to-B4 ready img n h)
+  rates : (n : ℕ) → n ≤ 4 → Leaves i c v (0xB0 + n)
+  rates n h = answers (λ r. withRate r n) (λ r. (0xB0 + n) ∷ []) refl refl (λ u img ready. row-B0-to-B4 ready img n h)
 
-  pub lone-byte : (b : ℕ) → Leaves i v b
+  pub lone-byte : (b : ℕ) → Leaves i c v b
   lone-byte b =
-      by-cases (Leaves i v) b
+      by-cases (Leaves i c v) b
       (0xFF ∷ 0x41 ∷ 0x49 ∷ 0x20 ∷ 0xA7 ∷ 0x50 ∷ 0x70 ∷ 0xF5 ∷ 0xFB ∷ 0xB0 ∷ 0xB1 ∷ 0xB2 ∷ 0xB3 ∷ 0xB4 ∷ 0x00 ∷ [])
       (guarded drops-FF
       also guarded drops-41
@@ -117,20 +121,20 @@ module _ {i : List ℕ} {v : View} (a : At (Awake Command) v) where
       also guarded drops-20
       also guarded drops-A7
       also guarded drops-50
-      also answers (λ r. r) (λ r. r .srd ∷ r .srd1 ∷ []) refl (λ u img ready. row-70 ready img)
+      also answers (λ r. r) (λ r. r .srd ∷ r .srd1 ∷ []) refl refl (λ u img ready. row-70 ready img)
       also (λ n. absurd (n refl))
-      also answers (λ r. r) _ refl (λ u img ready. row-FB ready img)
+      also answers (λ r. r) _ refl refl (λ u img ready. row-FB ready img)
       also rates 0 (omega arith)
       also rates 1 (omega arith)
       also rates 2 (omega arith)
       also rates 3 (omega arith)
       also rates 4 (omega arith)
-      also answers (λ r. r) (λ r. []) refl (λ u img ready. row-00 ready img)
+      also answers (λ r. r) (λ r. []) refl refl (λ u img ready. row-00 ready img)
       also tt)
       (λ others. drops (λ u img ready shut. unknown-drops ready img b others))
 
 -- the image's right packet, by its ID bytes
-right-bytes : (img : List ℕ) → rightPacket img ≡ packetBytes (right (ids img))
+pub right-bytes : (img : List ℕ) → rightPacket img ≡ packetBytes (right (ids img))
 unfolding byteAt placeOf find holds
 right-bytes img = refl
 
@@ -152,18 +156,23 @@ filled-row t y h =
     every-packet id-check (filled t) (bytes-append t (replicate n 0x00) y (bytes-zeros n))
     (omega (arith, length-append t (replicate n 0x00), length-replicate {A = ℕ} n 0x00, padded t n 3))
 
-module _ {i : List ℕ} {v : View} (a : At (Awake Command) v) where
-  pub packet : (p : Packet) → Wrong i p → Comes i v (At (Awake Command)) (packetBytes p)
+-- the count after a packet that is not the right one
+abbrev after : Packet → ℕ → ℕ
+after (lone b) c = c
+after (check low mid high ds) c = min 3 (suc c)
+
+module _ {i : List ℕ} {c : ℕ} {v : View} (a : At (Awake Command) c v) where
+  pub packet : (p : Packet) → Wrong i p → Comes i v (At (Awake Command) (after p c)) (packetBytes p)
   packet (lone b) w = lone-byte a b (w .0)
   packet (check low mid high ds) w =
       record {
-        view = commanding (withSrd1 (v .registers) 0x04);
+        view = commanding (afterWrong (v .registers));
         said = [];
-        is = record { phase = refl; collected = refl; closed = λ o. omega arith };
+        is = record { phase = refl; collected = refl; closed = λ o. omega arith; counted = ap (λ (n : ℕ). min 3 (suc n)) (a .counted) };
         leads = λ u img size same sound bytes seen.
             record {
               before = shut-inside a sound seen img (low ∷ mid ∷ high ∷ length ds ∷ ds) (after-F5 {ds = ds} (w .0));
-              after = ended a sound seen (λ r. withSrd1 r 0x04) (λ r. [])
+              after = ended a sound seen afterWrong (λ r. [])
                   (check-wrong (ready a sound seen) img low mid high ds (w .0) size (not-blank a sound seen)
                   (λ e. w .1 (same-packet (e ∙ (right-bytes img ∙ ap (λ (i : List ℕ). packetBytes (right i)) same)))));
             };
@@ -172,34 +181,41 @@ module _ {i : List ℕ} {v : View} (a : At (Awake Command) v) where
       same-packet : packetBytes (check low mid high ds) ≡ packetBytes (right i) → check low mid high ds ≡ right i
       same-packet e = cc
 
-  pub right-packet : Comes i v Opened (packetBytes (right i))
-  right-packet =
+  pub right-packet : c < 3 → Comes i v (λ (w : View). Opened w × Counted c w) (packetBytes (right i))
+  right-packet few =
       record {
         view = commanding (withSrd1 (v .registers) 0x0C);
         said = [];
-        is = refl;
+        is = (refl, a .counted);
         leads = λ u img size same sound bytes seen.
             subst (λ (i : List ℕ). Passes u img (packetBytes (right i)) (commanding (withSrd1 (v .registers) 0x0C)) []) same
             (record {
               before = shut-inside a sound seen img _ (after-F5 {ds = ids img} (omega arith));
               after = ended a sound seen (λ r. withSrd1 r 0x0C) (λ r. [])
                   (subst (λ (l : List ℕ). Ends u (withSrd1 (u .registers) 0x0C) (Kept img) [] (run u img l)) (right-bytes img)
-                  (check-right (ready a sound seen) img size (not-blank a sound seen)));
+                  (check-right (ready a sound seen) img size (not-blank a sound seen) (omega (arith, count a sound seen))));
             });
       }
 
-pub packets : {i : List ℕ} {v : View} (ps : List Packet) → EachPiece (Wrong i) ps → At (Awake Command) v → Comes i v (At (Awake Command)) (joined packetBytes ps)
-packets [] w a = none a
-packets (p ∷ ps) w a = then (packet a p (w .0)) (λ x b. packets ps (w .1) b)
+-- packets, and with them the count
+pub packets : {i : List ℕ} {c : ℕ} {v : View} (ps : List Packet) → EachPiece (Wrong i) ps → c ≤ 3 → At (Awake Command) c v
+    → Comes i v (At (Awake Command) (min 3 (c + checks ps))) (joined packetBytes ps)
+packets {c = c} {v = v} [] w h a =
+    let e : c ≡ min 3 (c + 0) = omega arith in none (subst (λ (n : ℕ). At (Awake Command) n v) e a)
+packets {i} {c} {v} (lone b ∷ ps) w h a = then (packet a (lone b) (w .0)) (λ x k. packets ps (w .1) h k)
+packets {i} {c} {v} (check low mid high ds ∷ ps) w h a =
+    let e : min 3 (min 3 (suc c) + checks ps) ≡ min 3 (c + suc (checks ps)) = omega arith in
+    subst (λ (n : ℕ). Comes i v (At (Awake Command) n) (joined packetBytes (check low mid high ds ∷ ps))) e
+    (then (packet a (check low mid high ds) (w .0)) (λ x k. packets ps (w .1) (omega arith) k))
 
 -- where a packet is broken off: nothing but the phase and the collected bytes has changed since its command
 abbrev pub brokenOff : View → List ℕ → View
 brokenOff v [] = v
 brokenOff v (b ∷ t) = record { phase = Awake (IdCheck (length t)); registers = v .registers; collected = t ++ drop (length t) noBytes }
 
-broken-off : {v : View} {u : Port} → At (Awake Command) v → Sound u → Seen v u → (img t : List ℕ) → Bytes t → length t < 4 + getD t 3 0
+broken-off : {c : ℕ} {v : View} {u : Port} → At (Awake Command) c v → Sound u → Seen v u → (img t : List ℕ) → Bytes t → length t < 4 + getD t 3 0
     → Passes u img (0xF5 ∷ t) (brokenOff v (0xF5 ∷ t)) []
-broken-off {v} {u} a sound seen img t y h =
+broken-off {v = v} {u = u} a sound seen img t y h =
     let pad : List ℕ = replicate (4 + getD t 3 0 - length t) 0x00 in
     let row = filled-row t y h in
     let long : length t < length (filled t) = omega (arith, length-append t pad, length-replicate {A = ℕ} (4 + getD t 3 0 - length t) 0x00) in
@@ -222,9 +238,9 @@ broken-off {v} {u} a sound seen img t y h =
           };
     }
 
-pub unfinished : {i : List ℕ} {v : View} (t : List ℕ) → Unfinished t → At (Awake Command) v → Comes i v (λ (w : View). w ≡ brokenOff v t) t
+pub unfinished : {i : List ℕ} {c : ℕ} {v : View} (t : List ℕ) → Unfinished t → At (Awake Command) c v → Comes i v (λ (w : View). w ≡ brokenOff v t) t
 unfinished [] k a = none refl
-unfinished {i} {v} (b ∷ t) k a =
+unfinished {i} {v = v} (b ∷ t) k a =
     subst (λ (b : ℕ). Comes i v (λ (w : View). w ≡ brokenOff v (b ∷ t)) (b ∷ t)) (sym (k .0))
     (record {
       view = brokenOff v (0xF5 ∷ t);

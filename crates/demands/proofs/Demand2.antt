@@ -4,29 +4,24 @@ use native.Mathlib.Omega.{arith}
 use mathlib.Core.Path.{_≡_, refl, ap, sym, _∙_, subst, subst⁻¹}
 use mathlib.Core.Logic.{inr}
 use mathlib.Core.List.{List, [], _∷_, _++_}
-use lib.ListN.{length, getD, take, drop, length-append, length-drop}
-use lib.Seq.{length-take-le, take-take}
-use Rattle.slices.proofs.Lists.{bytes-take, bytes-append}
+use lib.ListN.{length, getD, take, drop}
 use Rattle.unit.specs.declared.Unit.{Unit as Port}
 use Rattle.unit.specs.declared.Registers.{Registers}
 use Rattle.unit.specs.declared.Inputs.{Inputs}
-use Rattle.unit.specs.Phases.{Kind, commandOf, need, positionOf}
+use Rattle.unit.specs.Phases.{Kind, commandOf, positionOf}
 use Rattle.unit.specs.Phases.Kind.{id-check}
 use Rattle.unit.specs.Phases.Position.{within}
 use Rattle.unit.specs.Model.{isOpen}
 use Rattle.unit.proofs.Positions.{position-inside}
 use Rattle.unit.proofs.Ranged.{Sound, in-range}
-use Rattle.unit.proofs.Builders.{fresh-phase}
-use Rattle.unit.proofs.Inside.{open-inside, few-collected}
+use Rattle.unit.proofs.Inside.{open-inside}
 use Rattle.protocol.specs.Outcome.{Outcome}
 use Rattle.protocol.specs.Step.{step, run}
 use Rattle.protocol.specs.Calls.{answered, ByteEnsures}
-use Rattle.protocol.specs.Rows.{Row}
 use Rattle.protocol.specs.Changes.{Carried, Done, Change as Changed}
 use Rattle.protocol.specs.Changes.Carried.{page, bytes, block, all}
 use Rattle.protocol.specs.Changes.Change.{none as no-change, last as last-byte}
 use Rattle.protocol.proofs.Refusals.{all-right, byte-done}
-use Rattle.protocol.proofs.RowsFront.{front, every-packet}
 use Rattle.protocol.proofs.RowsMay.{bit-set}
 use Rattle.protocol.proofs.Protected.{protected-run}
 use Rattle.protocol.proofs.Changes.{changes}
@@ -35,11 +30,11 @@ use Rattle.demands.specs.Flash.{InBlock, Protected}
 use Rattle.demands.specs.Histories.{Call, Entry, History, unitAfter, imageAfter, taken, At}
 use Rattle.demands.specs.Changes.{Begins, Carries, Permitted, bytesTo, FullEffect, Change}
 use Rattle.demands.specs.Changes.Change.{none, last}
-use Rattle.demands.proofs.Traces.{at-under, taken-long, image-next, image-onward}
-use Rattle.demands.proofs.Bridge.{start-fresh, stepped, start-sound, image-is, sound-at, size-at, protection-at, entry-is}
+use Rattle.demands.proofs.Traces.{at-under, image-next, image-onward}
+use Rattle.demands.proofs.Bridge.{stepped, image-is, sound-at, size-at, protection-at, entry-is}
 use Rattle.demands.proofs.Records.{open-is, in-range as range-is, block-is}
-use Rattle.demands.proofs.Effects.{permitted-row, begins-ready, packet-effect, carried-permitted}
-use Rattle.demands.proofs.Pending.{Pending, pending, pending-next}
+use Rattle.demands.proofs.Effects.{permitted-row, packet-effect, carried-permitted}
+use Rattle.demands.proofs.InHistory.{part-way, Completed, completed}
 
 -- a packet that writes is no ID check
 writes : {p : ℕ} {img xs new : List ℕ} {k : Kind} → Carried p img xs k new → k ≡ id-check → ⊥
@@ -82,20 +77,13 @@ module _ {img : List ℕ} {inputs : Inputs} {cs : List Call} (h : History img in
 
   -- "Every permitted program or erase takes its full effect at its packet's last byte."
   module _ (j k : ℕ) (after : j ≤ k) (under : k < length (h .trace)) (b : Begins (unitAfter (h .started .unit) (h .trace) j)) (m : Permitted (inputs .protection) (bytesTo (h .trace) j k)) where
-    long : length (bytesTo es j k) ≡ suc k - j
-    long = length-take-le (suc k - j) (drop j (taken es)) (omega (arith, length-drop j (taken es), taken-long es))
-
     -- i of its bytes but the last have come
     kept : (i : ℕ) → i < suc k - j → imageAfter img es (j + i) ≡ imageAfter img es j
     kept zero l = let e : j + 0 ≡ j = omega arith in ap (imageAfter img es) e
     kept (suc i) l =
         let r = permitted-row m in
-        let n : length (bytesTo es j k) ≡ suc (length (r .rest)) = ap length (r .whole) in
-        let front-of : take (suc i) (drop j (taken es)) ≡ r .command ∷ take i (r .rest) =
-        sym (take-take (suc i) (suc k - j) (drop j (taken es)) (omega arith)) ∙ ap (take (suc i)) (r .whole) in
         image-onward (stepped h) j (suc i) (j + suc i) refl
-        ∙ (ap (λ (l : List ℕ). run (unitAfter u₀ es j) (imageAfter img es j) l .image) front-of
-        ∙ front (begins-ready b (sound-at h j)) (imageAfter img es j) (r .row) (inr (open-is (unitAfter u₀ es j) .0 (b .opened))) i (omega (arith, long)) .image)
+        ∙ part-way h j k under (b .at-command) (r .row) (inr (open-is (unitAfter u₀ es j) .0 (b .opened))) (r .whole) i l .image
 
     pub full-effect : FullEffect (inputs .protection) img (h .trace) j k
     full-effect =
@@ -116,27 +104,18 @@ module _ {img : List ℕ} {inputs : Inputs} {cs : List Call} (h : History img in
       let xs : List ℕ = take n (v .collected) ++ e .byte ∷ [] in
       let s : Sound v = sound-at h k in
       let f : positionOf (v .phase) ≡ within q n = ap positionOf (d .place) ∙ position-inside q n in
-      let w : Pending u₀ es k q n = pending (stepped h) (start-sound h) (ap (λ (x : Port). x .phase) (start-fresh h) ∙ fresh-phase img inputs) k (omega (arith, at-under a)) q n f in
-      let long : length xs ≡ need q xs =
-      length-append (take n (v .collected)) (e .byte ∷ [])
-      ∙ (omega (arith, length-take-le n (v .collected) (omega (arith, few-collected s f, s .room)), d .last)) in
-      let row : Row q (commandOf q) xs =
-      every-packet q xs (bytes-append (take n (v .collected)) (e .byte ∷ []) (bytes-take n (v .collected) (s .bytes)) (entry-is h a .small, tt)) long in
-      let count : suc k - w .from ≡ suc (suc n) = omega (arith, w .long) in
-      let whole : bytesTo es (w .from) k ≡ commandOf q ∷ xs =
-      ap (λ (i : ℕ). take i (drop (w .from) (taken es))) count ∙ pending-next w a in
+      let w : Completed u₀ es k q xs = completed h a q n f (d .last) in
       let m : Permitted p (bytesTo es (w .from) k) =
-      subst⁻¹ (Permitted p) whole (subst (λ (z : ℕ). Permitted z (commandOf q ∷ xs)) (protection-at h k) (carried-permitted (d .carried) row)) in
+      subst⁻¹ (Permitted p) (w .bytes) (subst (λ (z : ℕ). Permitted z (commandOf q ∷ xs)) (protection-at h k) (carried-permitted (d .carried) (w .row))) in
       let b : Begins (unitAfter u₀ es (w .from)) =
       record {
         at-command = w .at-command;
         opened = open-is (unitAfter u₀ es (w .from)) .1 (ap isOpen (sym (w .registers)) ∙ open-inside s f (writes (d .carried)));
         ready = ap (λ (r : Registers). r .srd) (sym (w .registers)) ∙ d .ready;
       } in
-      let under : w .from ≤ k = omega (arith, w .long) in
-      let full = full-effect (w .from) k under (at-under a) b m in
-      last (w .from) under b
-      (subst⁻¹ (λ (l : List ℕ). Carries p l (bytesTo es (w .from) k) (e .image)) (full .before k under (omega arith))
+      let full = full-effect (w .from) k (w .under) (at-under a) b m in
+      last (w .from) (w .under) b
+      (subst⁻¹ (λ (l : List ℕ). Carries p l (bytesTo es (w .from) k) (e .image)) (full .before k (w .under) (omega arith))
       (subst (Carries p (imageAfter img es (w .from)) (bytesTo es (w .from) k)) (image-next img a) (full .at-last)))
 
   -- "Nothing else changes the image": a byte leaves it as it was, or is the last of a permitted program or erase, which has its effect

@@ -6,6 +6,7 @@ pub mod Demand1
 pub mod Effects
 pub mod OneEffect
 pub mod Pending
+pub mod InHistory
 pub mod Demand2
 pub mod LastByte
 pub mod Pinned
@@ -13,7 +14,10 @@ pub mod Witnesses
 pub mod Calm
 pub mod Nights
 pub mod Checks
+pub mod Locked
 pub mod RunOpens
 pub mod Twins
 pub mod Demand3
+pub mod Mismatches
 pub mod Witnesses3
+pub mod Witnesses5

@@ -29,31 +29,31 @@ turns s t =
 
 module _ {i : List ℕ} where
   -- a waking byte
-  turning : {v : View} {n b : ℕ} (f : Phase) (said : List ℕ) → At (Asleep n) v
-      → ((u : Port) (img : List ℕ) → u .phase ≡ Asleep n → Turns u img f said (step u img b)) → Comes i v (At f) (b ∷ [])
+  turning : {v : View} {c n b : ℕ} (f : Phase) (said : List ℕ) → At (Asleep n) c v
+      → ((u : Port) (img : List ℕ) → u .phase ≡ Asleep n → Turns u img f said (step u img b)) → Comes i v (At f c) (b ∷ [])
   turning {v} f said a law =
-      one (turned v f) said (record { phase = refl; collected = a .collected; closed = a .closed }) (a .closed)
+      one (turned v f) said (record { phase = refl; collected = a .collected; closed = a .closed; counted = a .counted }) (a .closed)
       (λ u img size sound seen. turns seen (law u img (seen .phase ∙ a .phase)))
 
-  pub zeros : (m n : ℕ) {v : View} → m ≤ 16 → At (Asleep m) v → Comes i v (At (Asleep (min 16 (m + n)))) (replicate n 0x00)
-  zeros m zero {v} h a =
+  pub zeros : (m n : ℕ) {c : ℕ} {v : View} → m ≤ 16 → At (Asleep m) c v → Comes i v (At (Asleep (min 16 (m + n))) c) (replicate n 0x00)
+  zeros m zero {c} {v} h a =
       let e : m ≡ min 16 (m + 0) = omega arith in
-      none (subst (λ (k : ℕ). At (Asleep k) v) e a)
-  zeros m (suc n) {v} h a =
+      none (subst (λ (k : ℕ). At (Asleep k) c v) e a)
+  zeros m (suc n) {c} {v} h a =
       let e : min 16 (min 16 (m + 1) + n) ≡ min 16 (m + suc n) = omega arith in
-      subst (λ (k : ℕ). Comes i v (At (Asleep k)) (0x00 ∷ replicate n 0x00)) e
+      subst (λ (k : ℕ). Comes i v (At (Asleep k) c) (0x00 ∷ replicate n 0x00)) e
       (then (turning (Asleep (min 16 (m + 1))) [] a (λ u img p. zero-counts u img m p)) (λ w b. zeros (min 16 (m + 1)) n (omega arith) b))
 
-  pub dull : {v : View} (s : Stretch) → Dull s → At (Asleep 0) v → Comes i v (At (Asleep 0)) (stretchBytes s)
+  pub dull : {c : ℕ} {v : View} (s : Stretch) → Dull s → At (Asleep 0) c v → Comes i v (At (Asleep 0) c) (stretchBytes s)
   dull s d a =
       then (zeros 0 (s .zeros) (omega arith) a)
       (λ w b. turning (Asleep 0) [] b (λ u img p. other-restarts u img (min 16 (0 + s .zeros)) p (s .last) (d .0) (λ e. d .1 (omega arith, e .0))))
 
-  pub dulls : {v : View} (ss : List Stretch) → Each Dull ss → At (Asleep 0) v → Comes i v (At (Asleep 0)) (joined stretchBytes ss)
+  pub dulls : {c : ℕ} {v : View} (ss : List Stretch) → Each Dull ss → At (Asleep 0) c v → Comes i v (At (Asleep 0) c) (joined stretchBytes ss)
   dulls [] d a = none a
   dulls (s ∷ ss) d a = then (dull s (d .0) a) (λ w b. dulls ss (d .1) b)
 
-  pub wake : {v : View} (s : Stretch) → Wakes s → At (Asleep 0) v → Comes i v (At (Awake Command)) (stretchBytes s)
+  pub wake : {c : ℕ} {v : View} (s : Stretch) → Wakes s → At (Asleep 0) c v → Comes i v (At (Awake Command) c) (stretchBytes s)
   wake s k a =
       then (zeros 0 (s .zeros) (omega arith) a)
       (λ w b. turning (Awake Command) (0xB0 ∷ []) b (λ u img p. rw (k .1) (B0-wakes u img (min 16 (0 + s .zeros)) p (omega arith))))

@@ -13,7 +13,7 @@ use Rattle.unit.specs.declared.Settings.{Settings}
 use Rattle.unit.specs.declared.State.{State}
 use Rattle.unit.specs.declared.Inputs.{Inputs}
 use Rattle.unit.specs.declared.Phase.{Phase}
-use Rattle.unit.specs.Clauses.{FreshEnsures, IdleEnsures, OfEnsures, StateEnsures, InRangeEnsures, AtEnsures, AtCommandEnsures, WithSrdEnsures, WithSrd1Ensures, WithRateEnsures, IsOpenEnsures, IsStandingEnsures}
+use Rattle.unit.specs.Clauses.{FreshEnsures, IdleEnsures, OfEnsures, StateEnsures, InRangeEnsures, AtEnsures, AtCommandEnsures, WithSrdEnsures, WithSrd1Ensures, WithRateEnsures, WithMismatchesEnsures, IsOpenEnsures, IsStandingEnsures}
 use Rattle.protocol.specs.declared.Started.{Started}
 use Rattle.protocol.specs.Calls.{Left, StartEnsures, ByteEnsures, RunEnsures}
 
@@ -76,7 +76,7 @@ unit-at-pinned self phase = pinned _
 pub unit-at-command-pinned : (registers : Registers) → Pins (λ (r : State). AtCommandEnsures registers r)
 unit-at-command-pinned registers = pinned _
 
--- Registers::with_srd, with_srd1, with_rate, is_open, is_standing
+-- Registers::with_srd, with_srd1, with_rate, with_mismatches, is_open, is_standing
 module _ (self : Registers) where
   pub unit-with-srd-pinned : (srd : ℕ) → Pins (λ (r : Registers). WithSrdEnsures self srd r)
   unit-with-srd-pinned srd = pinned _
@@ -86,6 +86,9 @@ module _ (self : Registers) where
 
   pub unit-with-rate-pinned : (rate : ℕ) → Pins (λ (r : Registers). WithRateEnsures self rate r)
   unit-with-rate-pinned rate = pinned _
+
+  pub unit-with-mismatches-pinned : (mismatches : ℕ) → Pins (λ (r : Registers). WithMismatchesEnsures self mismatches r)
+  unit-with-mismatches-pinned mismatches = pinned _
 
   pub unit-is-open-pinned : Pins (λ (r : Bool). IsOpenEnsures self r)
   unit-is-open-pinned = pinned _

@@ -1,7 +1,7 @@
 -- What the demands write out of the unit record and of the flash is what the specification computes: by cases on the phase and on the block, each closed by the numbers.
 use Prim.Native.Nat.{ℕ, zero, suc, _+_, _-_, _≤_, _<_}
 use native.Mathlib.Omega.{arith}
-use mathlib.Core.Bool.{Bool, true, false, cond, not, _&&_, _||_, false≢true}
+use mathlib.Core.Bool.{Bool, true, false, cond, _&&_, _||_, false≢true}
 use mathlib.Core.Path.{_≡_, refl, ap, sym, _∙_, subst, subst⁻¹}
 use mathlib.Core.Logic.{_⊎_, inl, inr, _↔_}
 use mathlib.Core.List.{List, [], _∷_}
@@ -25,8 +25,8 @@ use Rattle.unit.specs.Phases.{commandOf, need, positionOf}
 use Rattle.unit.specs.Model.{isOpen, fresh, idle}
 use Rattle.unit.specs.Range.{packetFits, positionFits, srdFits, srd1Fits, registersFit, settingsFit, inRange}
 use Rattle.unit.proofs.Lengths.{few-sized}
-use Rattle.unit.proofs.Ranged.{registers-srd, registers-srd1, registers-rate, registers-together, settings-protection, settings-open, settings-together}
-use Rattle.unit.proofs.Builders.{fresh-phase, fresh-srd, fresh-srd1, fresh-rate, fresh-blank, fresh-protection, fresh-collected, idle-phase, idle-srd, idle-srd1, idle-rate, idle-blank, idle-protection, idle-collected}
+use Rattle.unit.proofs.Ranged.{registers-srd, registers-srd1, registers-rate, registers-mismatches, registers-together, settings-protection, BlankRule, settings-blank, settings-together}
+use Rattle.unit.proofs.Builders.{fresh-phase, fresh-srd, fresh-srd1, fresh-rate, fresh-mismatches, fresh-blank, fresh-protection, fresh-collected, idle-phase, idle-srd, idle-srd1, idle-rate, idle-mismatches, idle-blank, idle-protection, idle-collected}
 use Rattle.demands.specs.Record.{Open, FewSized, PhaseFits, Srd, Srd1, InRange, Idle, Fresh}
 use Rattle.demands.specs.Record.PhaseFits.{asleep, at-command, in-FF, in-41, in-49, in-20, in-A7, in-F5}
 use Rattle.demands.specs.Record.Srd.{ready, program-error, erase-error, both-errors}
@@ -105,21 +105,14 @@ srd1-back : (s : ℕ) → srd1Fits s ≡ true → Srd1 s
 unfolding srd1Fits
 srd1-back s = which Srd1 s 0x00 _ not-checked (which Srd1 s 0x04 _ mismatch (λ e. subst⁻¹ Srd1 (eqb-true s 0x0C e) match))
 
--- blank implies open
-blank-fits : (u : Port) → (u .settings .blank ≡ false) ⊎ Open u → (not (u .settings .blank) || isOpen (u .registers)) ≡ true
-blank-fits u (inl e) = rw e
-blank-fits u (inr o) = rw (open-is u .0 o) (go (u .settings .blank))
-  where
-    go : (t : Bool) → (not t || true) ≡ true
-    go true = refl
-    go false = refl
+-- blank implies open, and no wrong ID check
+blank-fits : (u : Port) → (u .settings .blank ≡ false) ⊎ (Open u × (u .registers .mismatches ≡ 0)) → BlankRule (u .settings) (u .registers)
+blank-fits u (inl e) = inl e
+blank-fits u (inr (o, z)) = inr (open-is u .0 o, z)
 
-blank-back : (u : Port) → (not (u .settings .blank) || isOpen (u .registers)) ≡ true → (u .settings .blank ≡ false) ⊎ Open u
-blank-back u e = go (u .settings .blank) refl e
-  where
-    go : (t : Bool) → u .settings .blank ≡ t → (not t || isOpen (u .registers)) ≡ true → (u .settings .blank ≡ false) ⊎ Open u
-    go true q e = inr (open-is u .1 e)
-    go false q e = inl q
+blank-back : (u : Port) → BlankRule (u .settings) (u .registers) → (u .settings .blank ≡ false) ⊎ (Open u × (u .registers .mismatches ≡ 0))
+blank-back u (inl e) = inl e
+blank-back u (inr (o, z)) = inr (open-is u .1 o, z)
 
 -- a unit record is in range as the document says exactly where the specification's test says so
 pub in-range : (u : Port) → InRange u ↔ (inRange u ≡ true)
@@ -129,7 +122,7 @@ in-range u = (there, back)
     there : InRange u → (positionFits (positionOf (u .phase)) (isOpen (u .registers)) (u .collected) && (registersFit (u .registers) && settingsFit (u .settings) (u .registers))) ≡ true
     there r =
         both-and _ _ (fits u (r .phase))
-        (both-and _ _ (registers-together (u .registers) (srd-fits (r .srd)) (srd1-fits (r .srd1)) (r .rate))
+        (both-and _ _ (registers-together (u .registers) (srd-fits (r .srd)) (srd1-fits (r .srd1)) (r .rate) (r .mismatches))
         (settings-together (u .settings) (u .registers) (r .protection) (blank-fits u (r .blank))))
 
     back : (positionFits (positionOf (u .phase)) (isOpen (u .registers)) (u .collected) && (registersFit (u .registers) && settingsFit (u .settings) (u .registers))) ≡ true → InRange u
@@ -141,8 +134,9 @@ in-range u = (there, back)
           srd = srd-back _ (registers-srd (u .registers) (b .0));
           srd1 = srd1-back _ (registers-srd1 (u .registers) (b .0));
           rate = registers-rate (u .registers) (b .0);
+          mismatches = registers-mismatches (u .registers) (b .0);
           protection = settings-protection (u .settings) (u .registers) (b .1);
-          blank = blank-back u (settings-open (u .settings) (u .registers) (b .1));
+          blank = blank-back u (settings-blank (u .settings) (u .registers) (b .1));
         }
 
 -- an image is blank as the document says exactly where the specification's test says so
@@ -177,6 +171,7 @@ idle-is =
       srd = idle-srd;
       srd1 = idle-srd1;
       rate = idle-rate;
+      mismatches = idle-mismatches;
       blank = idle-blank;
       protection = idle-protection;
       collected = idle-collected;
@@ -189,6 +184,7 @@ fresh-is img inputs size =
       srd = fresh-srd img inputs;
       srd1 = opened (isBlank part img) refl;
       rate = fresh-rate img inputs;
+      mismatches = fresh-mismatches img inputs;
       blank-flag = flag (isBlank part img) refl;
       protection = fresh-protection img inputs;
       collected = fresh-collected img inputs;

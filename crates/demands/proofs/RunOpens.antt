@@ -1,15 +1,18 @@
--- Every list of bytes has a reading, and its pieces say what they lead to: so a run of the fresh unit opens where the reading has the right packet, and up to there shows no more of the image than the ID bytes.
+-- Every list of bytes has a reading, and its pieces say what they lead to: so a run of the fresh unit opens where the reading has the right packet and fewer than three wrong ID packets before it,
+-- and up to there shows no more of the image than the ID bytes. Where there are three, the unit is locked when the right packet comes, and no byte opens it any more.
 -- That a run which opens has such a reading needs no law of the machine: the reading is there, and every other reading would have left the unit closed.
-use Prim.Native.Nat.{ℕ, min, _≤_}
+use Prim.Native.Nat.{ℕ, min, _+_, _≤_, _<_}
 use native.Mathlib.Omega.{arith}
+use native.Mathlib.Decide.{decLt}
 use mathlib.Core.Bool.{Bool, true, false}
 use mathlib.Core.Logic.{_↔_, _⊎_, inl, inr}
 use mathlib.Core.Path.{_≡_, refl, ap, sym, _∙_, subst}
 use mathlib.Core.List.{List, [], _∷_, _++_, append-nil, append-assoc}
-use lib.ListN.{length, take, replicate, length-append}
+use lib.ListN.{length, take, length-append}
 use lib.Seq.{take-append-seam}
-use Rattle.packets.specs.Pieces.{joined, stretchBytes, packetBytes, right}
-use Rattle.packets.specs.Readings.{Bytes as PacketBytes, Log, slept, stayed-shut, opened, logBytes, Reads, Opening}
+use Rattle.packets.specs.Pieces.{Each, joined, Stretch, stretchBytes, Wakes, Dull, Packet, packetBytes, right}
+use Rattle.packets.specs.Readings.{Bytes as PacketBytes, Log, slept, stayed-shut, opened, logBytes, Wrong, Reads, Reading, Opening}
+use Rattle.packets.specs.Counts.{checks, wrongChecks}
 use Rattle.packets.proofs.Readings.{reading}
 use Rattle.slices.specs.Lists.{Bytes}
 use Rattle.flash.specs.Blocks.{part}
@@ -24,73 +27,86 @@ use Rattle.protocol.specs.Outcome.{Outcome}
 use Rattle.protocol.specs.Step.{run}
 use Rattle.demands.specs.Record.{Open}
 use Rattle.demands.specs.Flash.{ids, Blank}
+use Rattle.demands.specs.Opening.{OpeningInTime}
 use Rattle.demands.proofs.Records.{blank-is}
-use Rattle.demands.proofs.Calm.{View, Seen, After, ShutWithin, Passes, Comes, Opened, Closed, At, seen-shut, bytes-apart, none, then}
+use Rattle.demands.proofs.Calm.{View, Seen, Alike, After, ShutWithin, Passes, Comes, Opened, Closed, Counted, At, seen-shut, bytes-apart, none, weaken, then}
 use Rattle.demands.proofs.Nights.{zeros, dulls, wake}
 use Rattle.demands.proofs.Checks.{packets, right-packet, brokenOff, unfinished}
-
-weaken : {i bs : List ℕ} {v : View} {P Q : View → Type 0} → ((w : View) → P w → Q w) → Comes i v P bs → Comes i v Q bs
-weaken f c = record { view = c .view; said = c .said; is = f (c .view) (c .is); leads = c .leads }
+use Rattle.demands.proofs.Locked.{locked-bytes}
 
 -- the fresh unit of an image that is not blank
 abbrev pub start : View
 start = record { phase = Asleep 0; registers = begun false (inputs 0) .registers; collected = noBytes }
 
-start-at : At (Asleep 0) start
+start-at : At (Asleep 0) 0 start
 unfolding begun
-start-at = record { phase = refl; collected = refl; closed = λ o. omega arith }
+start-at = record { phase = refl; collected = refl; closed = λ o. omega arith; counted = refl }
 
--- what a log's pieces leave: asleep with the zeros at its end; at a command, or in the packet that is broken off; open
-abbrev pub Rests : Log → View → Type 0
-Rests (slept dull n) w = At (Asleep (min 16 n)) w
-Rests (stayed-shut dull wake packets rest) w = (v : View) × At (Awake Command) v × (w ≡ brokenOff v rest)
-Rests (opened dull wake packets unread) w = Opened w
+-- up to the end of some packets that are not the right one, and on from there
+awake : {i : List ℕ} {P : View → Type 0} (d : List Stretch) (w : Stretch) (ps : List Packet) (rest : List ℕ) → Each Dull d → Wakes w → Each (Wrong i) ps
+    → ((v : View) → At (Awake Command) (min 3 (checks ps)) v → Comes i v P rest) → Comes i start P (joined stretchBytes d ++ (stretchBytes w ++ (joined packetBytes ps ++ rest)))
+awake d w ps rest dull wakes wrong next =
+    let e : min 3 (0 + checks ps) ≡ min 3 (checks ps) = omega arith in
+    then (dulls d dull start-at) (λ v a. then (wake w wakes a) (λ v a. then (packets ps wrong (omega arith) a) (λ x k. next x (subst (λ (n : ℕ). At (Awake Command) n x) e k))))
 
--- a log up to the end of its right packet
-abbrev pub read : Log → Log
-read (slept dull n) = slept dull n
-read (stayed-shut dull wake packets rest) = stayed-shut dull wake packets rest
-read (opened dull wake packets unread) = opened dull wake packets []
+-- it is closed, and so many wrong ID checks were counted; or it is open
+abbrev Stays : ℕ → View → Type 0
+Stays n w = Closed w × Counted n w
 
-pub log-comes : (i : List ℕ) (l : Log) → Reads i l → Comes i start (Rests l) (logBytes i (read l))
-log-comes i (slept d n) r =
-    then (dulls d r start-at) (λ v a. subst (λ (m : ℕ). Comes i v (At (Asleep (min 16 m))) (replicate n 0x00)) (omega arith) (zeros 0 n (omega arith) a))
-log-comes i (stayed-shut d w ps t) r =
-    then (dulls d (r .0) start-at) (λ v a. then (wake w (r .1) a) (λ v a. then (packets ps (r .2) a) (λ v a. weaken (λ x e. (v, a, e)) (unfinished t (r .3) a))))
-log-comes i (opened d w ps unread) r =
-    then (dulls d (r .0) start-at) (λ v a. then (wake w (r .1) a) (λ v a. then (packets ps (r .2) a) (λ v a. then (right-packet a) (λ v o. none o))))
+abbrev Opens : ℕ → View → Type 0
+Opens n w = Opened w × Counted n w
+
+broken-stays : {n : ℕ} {v : View} (t : List ℕ) → At (Awake Command) n v → Stays n (brokenOff v t)
+broken-stays [] a = (a .closed, a .counted)
+broken-stays (b ∷ t) a = (a .closed, a .counted)
 
 packet-bytes : (bs : List ℕ) → Bytes bs → PacketBytes bs
 packet-bytes [] y = tt
 packet-bytes (b ∷ bs) y = (y .0, packet-bytes bs (y .1))
 
--- what bytes make of the fresh unit: it stays closed; or it opens, at the end of a front of them that ends with the first right packet
-pub data Told (i bs : List ℕ) : Type 0 where
-  stays : Comes i start Closed bs → Told i bs
-  opens : (front unread : List ℕ) → bs ≡ front ++ unread → Opening i front → Comes i start Opened front → Told i bs
-
-closed-off : {v : View} (t : List ℕ) → At (Awake Command) v → Closed (brokenOff v t)
-closed-off [] a = a .closed
-closed-off (b ∷ t) a = a .closed
-
 regroup : (a b c d e : List ℕ) → a ++ (b ++ (c ++ (d ++ e))) ≡ (a ++ (b ++ (c ++ (d ++ [])))) ++ e
 regroup a b c d e = simp append-assoc
 
-log-tells : (i bs : List ℕ) (l : Log) → Reads i l → bs ≡ logBytes i l → Told i bs
-log-tells i bs (slept d n) r e = stays (subst (Comes i start Closed) (sym e) (weaken (λ w a. a .closed) (log-comes i (slept d n) r)))
-log-tells i bs (stayed-shut d w ps t) r e =
-    stays (subst (Comes i start Closed) (sym e) (weaken (λ x (v, a, e). subst Closed (sym e) (closed-off t a)) (log-comes i (stayed-shut d w ps t) r)))
-log-tells i bs (opened d w ps unread) r e =
-    opens (logBytes i (opened d w ps [])) unread (e ∙ regroup (joined stretchBytes d) (stretchBytes w) (joined packetBytes ps) (packetBytes (right i)) unread)
-    (record { dull = d; wake = w; packets = ps; reads = r; whole = refl })
-    (log-comes i (opened d w ps unread) r)
-
-pub told : (i bs : List ℕ) → length i ≡ 7 → Bytes bs → Told i bs
-told i bs seven y = let r = reading i bs seven (packet-bytes bs y) in log-tells i bs (r .log) (r .reads) (r .whole)
-
-opening-comes : {i bs : List ℕ} → Opening i bs → Comes i start Opened bs
+opening-comes : {i bs : List ℕ} (o : OpeningInTime i bs) → Comes i start (Opens (checks (o .opening .packets))) bs
 opening-comes {i} o =
-    subst (Comes i start Opened) (sym (o .whole)) (log-comes i (opened (o .dull) (o .wake) (o .packets) []) (o .reads))
+    let p = o .opening in
+    let ps : List Packet = p .packets in
+    let r = p .reads in
+    let e : min 3 (checks ps) ≡ checks ps = omega (arith, o .few) in
+    subst (Comes i start (Opens (checks ps))) (sym (p .whole))
+    (awake (p .dull) (p .wake) ps (packetBytes (right i) ++ []) (r .0) (r .1) (r .2)
+    (λ v a. then (right-packet (subst (λ (n : ℕ). At (Awake Command) n v) e a) (o .few)) (λ v q. none q)))
+
+-- what bytes with a reading that has so many wrong ID packets make of the fresh unit: it stays closed, and that many are counted, up to 3;
+-- or it opens, at the end of a front of them that ends with the first right packet
+pub data Told (i bs : List ℕ) (n : ℕ) : Type 0 where
+  stays : Comes i start (Stays (min 3 n)) bs → Told i bs n
+  opens : (front unread : List ℕ) → bs ≡ front ++ unread → (o : OpeningInTime i front) → checks (o .opening .packets) ≡ n → Told i bs n
+
+-- the same of bytes that do not go on after the opening
+abbrev Ended : List ℕ → List ℕ → ℕ → Type 0
+Ended i bs n = Comes i start (Stays (min 3 n)) bs ⊎ ((o : OpeningInTime i bs) × (checks (o .opening .packets) ≡ n))
+
+log-tells : (i bs : List ℕ) (l : Log) → Reads i l → bs ≡ logBytes i l → Told i bs (wrongChecks l)
+log-tells i bs (slept d n) r e =
+    stays (subst (Comes i start (Stays 0)) (sym e) (then (dulls d r start-at) (λ v a. weaken (λ w b. (b .closed, b .counted)) (zeros 0 n (omega arith) a))))
+log-tells i bs (stayed-shut d w ps t) r e =
+    stays (subst (Comes i start (Stays (min 3 (checks ps)))) (sym e)
+    (awake d w ps t (r .0) (r .1) (r .2) (λ v a. weaken (λ x q. subst (Stays (min 3 (checks ps))) (sym q) (broken-stays t a)) (unfinished t (r .3) a))))
+log-tells i bs (opened d w ps unread) r e = go (decLt (checks ps) 3)
+  where
+    go : Dec (checks ps < 3) → Told i bs (checks ps)
+    go (yes few) =
+        opens (logBytes i (opened d w ps [])) unread (e ∙ regroup (joined stretchBytes d) (stretchBytes w) (joined packetBytes ps) (packetBytes (right i)) unread)
+        (record { opening = record { dull = d; wake = w; packets = ps; reads = r; whole = refl }; few = few }) refl
+    go (no many) =
+        let three : min 3 (checks ps) ≡ 3 = omega arith in
+        stays (subst (Comes i start (Stays (min 3 (checks ps)))) (sym e)
+        (awake d w ps (packetBytes (right i) ++ unread) (r .0) (r .1) (r .2)
+        (λ v a. weaken (λ x k. (k .closed, k .three ∙ sym three)) (locked-bytes (record { closed = a .closed; three = a .counted ∙ three }) (packetBytes (right i) ++ unread)))))
+
+pub told : (i bs : List ℕ) (r : Reading i bs) → Told i bs (wrongChecks (r .log))
+told i bs r = log-tells i bs (r .log) (r .reads) (r .whole)
 
 -- a fresh unit of an image that is not blank
 module _ (img : List ℕ) (inputs : Inputs) (size : length img ≡ 20480) (range : inputs .protection ≤ 15) (n : Blank img → ⊥) where
@@ -105,52 +121,50 @@ module _ (img : List ℕ) (inputs : Inputs) (size : length img ≡ 20480) (range
   passes : {P : View → Type 0} {bs : List ℕ} → Bytes bs → (c : Comes (ids img) start P bs) → Passes (fresh img inputs) img bs (c .view) (c .said)
   passes bytes c = c .leads (fresh img inputs) img size refl (sound-fresh img inputs range) bytes fresh-seen
 
-  -- fed the pieces of a log, up to the end of its right packet if it has one, the unit is open after no shorter front, the image stays, and the unit is as the pieces say
-  pub run-log : (l : Log) → Reads (ids img) l → Bytes (logBytes (ids img) (read l))
-      → (w : View) × (said : List ℕ) × Rests l w × Passes (fresh img inputs) img (logBytes (ids img) (read l)) w said
-  run-log l r bytes = let c = log-comes (ids img) l r in (c .view, c .said, c .is, passes bytes c)
+  open-at-end : {bs : List ℕ} {n : ℕ} → Bytes bs → Comes (ids img) start (Opens n) bs → Open (run (fresh img inputs) img bs .unit)
+  open-at-end bytes c = ap (λ (r : Registers). r .srd1) (passes bytes c .after .seen .registers) ∙ c .is .0
 
-  open-at-end : {bs : List ℕ} → Bytes bs → Comes (ids img) start Opened bs → Open (run (fresh img inputs) img bs .unit)
-  open-at-end bytes c = ap (λ (r : Registers). r .srd1) (passes bytes c .after .seen .registers) ∙ c .is
+  counted-at-end : {bs : List ℕ} {n : ℕ} {P : View → Type 0} → Bytes bs → Comes (ids img) start (λ (w : View). P w × Counted n w) bs → run (fresh img inputs) img bs .unit .registers .mismatches ≡ n
+  counted-at-end bytes c = ap (λ (r : Registers). r .mismatches) (passes bytes c .after .seen .registers) ∙ c .is .1
 
   -- bytes of which no shorter front opens the unit leave it closed, or end with the first right packet
-  ends : {bs : List ℕ} → Bytes bs → ShutWithin (fresh img inputs) img bs → Told (ids img) bs → Comes (ids img) start Closed bs ⊎ (Opening (ids img) bs × Comes (ids img) start Opened bs)
+  ends : {bs : List ℕ} {n : ℕ} → Bytes bs → ShutWithin (fresh img inputs) img bs → Told (ids img) bs n → Ended (ids img) bs n
   ends bytes shut (stays c) = inl c
-  ends bytes shut (opens front [] e o c) =
-      let f = sym (e ∙ append-nil front) in
-      inr (subst (Opening (ids img)) f o, subst (Comes (ids img) start Opened) f c)
-  ends bytes shut (opens front (x ∷ xs) e o c) =
+  ends {n = n} bytes shut (opens front [] e o k) =
+      subst (λ (l : List ℕ). Ended (ids img) l n) (sym (e ∙ append-nil front)) (inr (o, k))
+  ends bytes shut (opens front (x ∷ xs) e o k) =
       let f = ap (take (length front)) e ∙ take-append-seam front (x ∷ xs) in
       absurd (shut (length front) (omega (arith, ap length e, length-append front (x ∷ xs)))
-      (subst (λ (l : List ℕ). Open (run (fresh img inputs) img l .unit)) (sym f) (open-at-end (bytes-apart front (x ∷ xs) (subst Bytes e bytes) .0) c)))
+      (subst (λ (l : List ℕ). Open (run (fresh img inputs) img l .unit)) (sym f) (open-at-end (bytes-apart front (x ∷ xs) (subst Bytes e bytes) .0) (opening-comes o))))
 
   module _ (bs : List ℕ) (bytes : Bytes bs) where
-    -- open after these bytes, and after no shorter front of them: exactly where they end with the first right packet
-    pub run-opens : (Open (run (fresh img inputs) img bs .unit) × ShutWithin (fresh img inputs) img bs) ↔ Opening (ids img) bs
-    run-opens = ((λ o. go (o .0) (ends bytes (o .1) (told (ids img) bs refl bytes))), λ o. let c = opening-comes o in (open-at-end bytes c, passes bytes c .before))
+    some-reading : Reading (ids img) bs
+    some-reading = reading (ids img) bs refl (packet-bytes bs bytes)
+
+    -- open after these bytes, and after no shorter front of them: exactly where they end with the first right packet, and fewer than three wrong ones came before it
+    pub run-opens : (Open (run (fresh img inputs) img bs .unit) × ShutWithin (fresh img inputs) img bs) ↔ OpeningInTime (ids img) bs
+    run-opens = ((λ o. go (o .0) (ends bytes (o .1) (told (ids img) bs some-reading))), λ o. let c = opening-comes o in (open-at-end bytes c, passes bytes c .before))
       where
-        go : Open (run (fresh img inputs) img bs .unit) → Comes (ids img) start Closed bs ⊎ (Opening (ids img) bs × Comes (ids img) start Opened bs) → Opening (ids img) bs
-        go o (inl c) = absurd (seen-shut (c .is) (passes bytes c .after .seen) o)
+        go : {n : ℕ} → Open (run (fresh img inputs) img bs .unit) → Ended (ids img) bs n → OpeningInTime (ids img) bs
+        go o (inl c) = absurd (seen-shut (c .is .0) (passes bytes c .after .seen) o)
         go o (inr e) = e .0
 
-    -- up to the opening, that byte included, the bytes lead to one view and one reply
-    pub until-open : ShutWithin (fresh img inputs) img bs → Comes (ids img) start (λ (w : View). Unit {0}) bs
-    until-open shut = go (ends bytes shut (told (ids img) bs refl bytes))
+    -- up to the opening, that byte included, the bytes lead to one view and one reply, and the count is that of the reading's wrong ID packets, up to 3
+    pub until-open : (r : Reading (ids img) bs) → ShutWithin (fresh img inputs) img bs → Comes (ids img) start (λ (w : View). Unit {0} × Counted (min 3 (wrongChecks (r .log))) w) bs
+    until-open r shut = go (ends bytes shut (told (ids img) bs r))
       where
-        go : Comes (ids img) start Closed bs ⊎ (Opening (ids img) bs × Comes (ids img) start Opened bs) → Comes (ids img) start (λ (w : View). Unit {0}) bs
-        go (inl c) = weaken (λ w p. tt) c
-        go (inr (o, c)) = weaken (λ w p. tt) c
+        go : {n : ℕ} → Ended (ids img) bs n → Comes (ids img) start (λ (w : View). Unit {0} × Counted (min 3 n) w) bs
+        go (inl c) = weaken (λ w p. (tt, p .1)) c
+        go {n} (inr (o, k)) =
+            let e : checks (o .opening .packets) ≡ min 3 n = omega (arith, k, o .few) in
+            weaken (λ w p. (tt, p .1 ∙ e)) (opening-comes o)
+
+    pub run-counts : (r : Reading (ids img) bs) → ShutWithin (fresh img inputs) img bs → run (fresh img inputs) img bs .unit .registers .mismatches ≡ min 3 (wrongChecks (r .log))
+    run-counts r shut = counted-at-end bytes (until-open r shut)
 
     -- the image stays
     pub run-unchanged : ShutWithin (fresh img inputs) img bs → run (fresh img inputs) img bs .image ≡ img
-    run-unchanged shut = passes bytes (until-open shut) .after .image
-
--- two outcomes that cannot be told apart
-pub record Alike (o o′ : Outcome) : Type 0 where
-  pub reply : o .reply ≡ o′ .reply
-  pub phase : o .unit .phase ≡ o′ .unit .phase
-  pub registers : o .unit .registers ≡ o′ .unit .registers
-  pub collected : o .unit .collected ≡ o′ .unit .collected
+    run-unchanged shut = passes bytes (until-open some-reading shut) .after .image
 
 seen-alike : {img img′ said : List ℕ} {w : View} {o o′ : Outcome} → After img w said o → After img′ w said o′ → Alike o o′
 seen-alike a b =
@@ -166,6 +180,6 @@ pub run-unseen : (img img′ : List ℕ) (inputs inputs′ : Inputs) → length 
     → (Blank img → ⊥) → (Blank img′ → ⊥) → ids img ≡ ids img′ → (bs : List ℕ) → Bytes bs → ShutWithin (fresh img inputs) img bs
     → Alike (run (fresh img inputs) img bs) (run (fresh img′ inputs′) img′ bs)
 run-unseen img img′ inputs inputs′ size size′ range range′ n n′ same bs bytes shut =
-    let c = until-open img inputs size range n bs bytes shut in
+    let c = until-open img inputs size range n bs bytes (some-reading img inputs size range n bs bytes) shut in
     seen-alike (passes img inputs size range n bytes c .after)
     (c .leads (fresh img′ inputs′) img′ size′ (sym same) (sound-fresh img′ inputs′ range′) bytes (fresh-seen img′ inputs′ size′ range′ n′) .after)

@@ -24,8 +24,7 @@ use Rattle.demands.proofs.Entries.{stepsOf, steps-long, walkOf, Called}
 use Rattle.demands.proofs.Entries.Called.{small, took}
 use Rattle.demands.proofs.Bridge.{called-entries, called-long, called-unit, Went}
 use Rattle.demands.proofs.Bridge.Went.{stays, calls}
-use Rattle.demands.proofs.Calm.{ShutWithin, shut-join}
-use Rattle.demands.proofs.RunOpens.{Alike}
+use Rattle.demands.proofs.Calm.{Alike, ShutWithin, shut-join}
 
 abbrev pub Twin : Port → List ℕ → Port → List ℕ → Type 0
 Twin u img u′ img′ = (bs : List ℕ) → Bytes bs → ShutWithin u img bs → Alike (run u img bs) (run u′ img′ bs)
@@ -92,6 +91,7 @@ module _ {u u′ : Port} {img img′ : List ℕ} (t : Twin u img u′ img′) (b
         reply = sym (append-nil (step u img b .reply)) ∙ (one-alike .reply ∙ append-nil (step u′ img′ b .reply));
         srd = ap (λ (r : Registers). r .srd) (one-alike .registers);
         srd1 = ap (λ (r : Registers). r .srd1) (one-alike .registers);
+        mismatches = ap (λ (r : Registers). r .mismatches) (one-alike .registers);
       }
 
   one-onward : let o = step u img b in let o′ = step u′ img′ b in Twin (o .unit) (o .image) (o′ .unit) (o′ .image)

@@ -14,10 +14,10 @@ use Rattle.flash.specs.Image.{byteAt, storedId, isBlank, programmed, permitted,
 use Rattle.unit.specs.declared.Unit.{Unit as Port}
 use Rattle.unit.specs.Phases.{commandOf, need}
 use Rattle.unit.specs.Model.{begun, fresh, inputs, idle, withSrd, phased, longer, ended, isOpen, standing}
-use Rattle.unit.specs.Range.{packetFits, positionFits, srdFits, srd1Fits, registersFit, settingsFit, inRange}
+use Rattle.unit.specs.Range.{packetFits, positionFits, srdFits, srd1Fits, registersFit, blankFits, settingsFit, inRange}
 use Rattle.protocol.specs.declared.Started.{Started}
 use Rattle.protocol.specs.Commands.{commands, meaning, needsOpen, effect, dropped, commanded}
-use Rattle.protocol.specs.Endings.{bankEnd, programmedBy, programs, rightId, isRight, judged, finished}
+use Rattle.protocol.specs.Endings.{bankEnd, programmedBy, programs, rightId, isRight, judged, counted, afterCheck, finished}
 use Rattle.protocol.specs.Step.{wakes, asleep, body, completes, inPacket, stepAt, step}
 use Rattle.protocol.specs.Calls.{startRefusal, startCall, refusal, Left, byteCall, runCall}
 use Rattle.protocol.specs.Sessions.{image}
@@ -69,7 +69,7 @@ a-history = history-exists image (inputs 0) calls refl (omega arith) (all-bytes 
 
 -- the second call is refused, and takes no byte
 pub refused-between : (h : History image (inputs 0) calls) → map (λ (l : Left). l .answer .refusal) (h .lefts) ≡ 0 ∷ 3 ∷ 0 ∷ 0 ∷ 0 ∷ []
-unfolding area calls image sized holds find placeOf guarded free byteAt storedId isBlank programmed permitted burnt program begun fresh phased longer ended isOpen standing commandOf need packetFits positionFits srdFits srd1Fits registersFit settingsFit inRange commands meaning needsOpen effect dropped commanded bankEnd programmedBy programs rightId isRight judged finished wakes asleep body completes inPacket stepAt step refusal byteCall runCall
+unfolding area calls image sized holds find placeOf guarded free byteAt storedId isBlank programmed permitted burnt program begun fresh phased longer ended isOpen standing commandOf need packetFits positionFits srdFits srd1Fits registersFit blankFits settingsFit inRange commands meaning needsOpen effect dropped commanded bankEnd programmedBy programs rightId isRight judged counted afterCheck finished wakes asleep body completes inPacket stepAt step refusal byteCall runCall
 refused-between h = ap (map (λ (l : Left). l .answer .refusal)) (lefts-are h)
 
 -- 35 bytes were taken; after 29 of them the unit is open at a command position and no error stands; the unit program that follows leaves F0 AND 0F at place 0, from its last byte on
@@ -81,7 +81,7 @@ pub record Shows (u : Port) (es : List Entry) : Type 0 where
   pub new : getD (imageAfter image es 35) 0 0 ≡ 0x00
 
 computed : Shows (fresh image (inputs 0)) (entriesOf 0 (fresh image (inputs 0)) image calls)
-unfolding area calls image sized holds find placeOf guarded free byteAt storedId isBlank programmed permitted burnt program begun fresh phased longer ended isOpen standing commandOf need packetFits positionFits srdFits srd1Fits registersFit settingsFit inRange commands meaning needsOpen effect dropped commanded bankEnd programmedBy programs rightId isRight judged finished wakes asleep body completes inPacket stepAt step refusal byteCall runCall
+unfolding area calls image sized holds find placeOf guarded free byteAt storedId isBlank programmed permitted burnt program begun fresh phased longer ended isOpen standing commandOf need packetFits positionFits srdFits srd1Fits registersFit blankFits settingsFit inRange commands meaning needsOpen effect dropped commanded bankEnd programmedBy programs rightId isRight judged counted afterCheck finished wakes asleep body completes inPacket stepAt step refusal byteCall runCall
 computed =
     record { long = refl; begins = record { at-command = refl; opened = refl; ready = refl }; packet = refl; old = refl; new = refl }
 
@@ -113,7 +113,7 @@ starts = refl
 pub byte-numbers : map (λ (l : Left). l .answer .refusal)
     (byteCall idle image area 0x70 ∷ byteCall idle (drop 1 image) area 0x70 ∷ byteCall idle image (drop 1 area) 0x70 ∷ byteCall (ended idle (withSrd (idle .registers) 0x81)) image area 0x70 ∷ [])
     ≡ 0 ∷ 1 ∷ 3 ∷ 4 ∷ []
-unfolding area idle image sized holds find placeOf guarded free byteAt storedId isBlank programmed permitted burnt program begun fresh phased longer ended isOpen standing commandOf need packetFits positionFits srdFits srd1Fits registersFit settingsFit inRange commands meaning needsOpen effect dropped commanded bankEnd programmedBy programs rightId isRight judged finished wakes asleep body completes inPacket stepAt step refusal byteCall runCall
+unfolding area idle image sized holds find placeOf guarded free byteAt storedId isBlank programmed permitted burnt program begun fresh phased longer ended isOpen standing commandOf need packetFits positionFits srdFits srd1Fits registersFit blankFits settingsFit inRange commands meaning needsOpen effect dropped commanded bankEnd programmedBy programs rightId isRight judged counted afterCheck finished wakes asleep body completes inPacket stepAt step refusal byteCall runCall
 byte-numbers = refl
 
 -- a page program to page 0FF00 can change 0FFFF: sixteen zeros and B0; the right ID packet; 256 times 00 for page 0FF00, whose last byte is the 288th
@@ -134,7 +134,7 @@ abbrev pub LastByteChanges : List Entry → Type 0
 LastByteChanges es = (getD (imageAfter image es 287) 20479 0 ≡ 0xFF) × (getD (imageAfter image es 288) 20479 0 ≡ 0x00)
 
 computed-change : LastByteChanges (entriesOf 0 (fresh image (inputs 0)) image page-calls)
-unfolding area page-calls image sized holds find placeOf guarded free byteAt storedId isBlank programmed permitted burnt program begun fresh phased longer ended isOpen standing commandOf need packetFits positionFits srdFits srd1Fits registersFit settingsFit inRange commands meaning needsOpen effect dropped commanded bankEnd programmedBy programs rightId isRight judged finished wakes asleep body completes inPacket stepAt step refusal byteCall runCall
+unfolding area page-calls image sized holds find placeOf guarded free byteAt storedId isBlank programmed permitted burnt program begun fresh phased longer ended isOpen standing commandOf need packetFits positionFits srdFits srd1Fits registersFit blankFits settingsFit inRange commands meaning needsOpen effect dropped commanded bankEnd programmedBy programs rightId isRight judged counted afterCheck finished wakes asleep body completes inPacket stepAt step refusal byteCall runCall
 computed-change = (refl, refl)
 
 pub page-changes : (h : History image (inputs 0) page-calls) → LastByteChanges (h .trace)

@@ -19,16 +19,16 @@ use Rattle.flash.specs.Blocks.{sized, holds, find, placeOf}
 use Rattle.flash.specs.Image.{byteAt, storedId, isBlank}
 use Rattle.unit.specs.Phases.{commandOf, need}
 use Rattle.unit.specs.Model.{inputs, begun, fresh, phased, longer, ended, isOpen}
-use Rattle.unit.specs.Range.{packetFits, positionFits, srdFits, srd1Fits, registersFit, settingsFit, inRange}
+use Rattle.unit.specs.Range.{packetFits, positionFits, srdFits, srd1Fits, registersFit, blankFits, settingsFit, inRange}
 use Rattle.protocol.specs.Commands.{commands, meaning, needsOpen, effect, dropped, commanded}
-use Rattle.protocol.specs.Endings.{rightId, isRight, judged, finished}
+use Rattle.protocol.specs.Endings.{rightId, isRight, judged, counted, afterCheck, finished}
 use Rattle.protocol.specs.Step.{wakes, asleep, body, completes, inPacket, stepAt, step}
 use Rattle.protocol.specs.Calls.{refusal, byteCall, runCall}
 use Rattle.protocol.specs.Sessions.{image}
 use Rattle.demands.specs.Flash.{ids, Blank}
 use Rattle.demands.specs.Histories.{Call, Entry, History, taken, At}
 use Rattle.demands.specs.Histories.Call.{byte, run}
-use Rattle.demands.specs.Opening.{FirstOpen, SameShown, Unseen}
+use Rattle.demands.specs.Opening.{FirstOpen, OpeningInTime, SameShown, Unseen}
 use Rattle.demands.proofs.Traces.{taken-long}
 use Rattle.demands.proofs.Bridge.{entriesOf, trace-is, history-exists}
 use Rattle.demands.proofs.Demand3.{opens-exactly, unseen}
@@ -63,24 +63,24 @@ unfolding image
 other = replicate 20447 0x00 ++ drop 20447 image
 
 -- the bytes that are taken: all but the refused 70
-abbrev woken : List ℕ → List ℕ
+abbrev pub woken : List ℕ → List ℕ
 woken bs = replicate 16 0x00 ++ (0xB0 ∷ bs)
 
-filled : Blank image → ⊥
+pub filled : Blank image → ⊥
 unfolding image
 filled b = omega arith
 
-history : (img : List ℕ) (p : ℕ) (bs : List ℕ) → length img ≡ 20480 → p ≤ 15 → under bs ≡ true → History img (inputs p) (calls bs)
+pub history : (img : List ℕ) (p : ℕ) (bs : List ℕ) → length img ≡ 20480 → p ≤ 15 → under bs ≡ true → History img (inputs p) (calls bs)
 unfolding calls
 history img p bs size h e =
     history-exists img (inputs p) (calls bs) size h (bytes-by (replicate 16 0x00 ++ (0xB0 ∷ [])) refl, (bytes-by (0x70 ∷ []) refl, (bytes-by bs e, tt)))
 
 right-taken : taken (entriesOf 0 (fresh image (inputs 0)) image (calls right)) ≡ woken right
-unfolding calls right image sized holds find placeOf byteAt storedId isBlank begun fresh phased longer ended isOpen commandOf need packetFits positionFits srdFits srd1Fits registersFit settingsFit inRange commands meaning needsOpen effect dropped commanded rightId isRight judged finished wakes asleep body completes inPacket stepAt step refusal byteCall runCall
+unfolding calls right image sized holds find placeOf byteAt storedId isBlank begun fresh phased longer ended isOpen commandOf need packetFits positionFits srdFits srd1Fits registersFit blankFits settingsFit inRange commands meaning needsOpen effect dropped commanded rightId isRight judged counted afterCheck finished wakes asleep body completes inPacket stepAt step refusal byteCall runCall
 right-taken = refl
 
 wrong-taken : taken (entriesOf 0 (fresh image (inputs 0)) image (calls wrong)) ≡ woken wrong
-unfolding calls wrong image sized holds find placeOf byteAt storedId isBlank begun fresh phased longer ended isOpen commandOf need packetFits positionFits srdFits srd1Fits registersFit settingsFit inRange commands meaning needsOpen effect dropped commanded rightId isRight judged finished wakes asleep body completes inPacket stepAt step refusal byteCall runCall
+unfolding calls wrong image sized holds find placeOf byteAt storedId isBlank begun fresh phased longer ended isOpen commandOf need packetFits positionFits srdFits srd1Fits registersFit blankFits settingsFit inRange commands meaning needsOpen effect dropped commanded rightId isRight judged counted afterCheck finished wakes asleep body completes inPacket stepAt step refusal byteCall runCall
 wrong-taken = refl
 
 -- it opens at the 29th byte taken, the twelfth of the run's thirteen; the refused call took none
@@ -93,8 +93,11 @@ unfolding image right
 opens-inside h =
     let e : taken (h .trace) ≡ woken right = ap taken (trace-is h) ∙ right-taken in
     opens-exactly h filled 29 (omega (arith, taken-long (h .trace), ap length e)) .1
-    (subst (λ (l : List ℕ). Opening (ids image) (take 29 l)) (sym e)
-    (record { dull = []; wake = record { zeros = 16; last = 0xB0 }; packets = []; reads = (tt, (omega arith, refl), tt); whole = refl }))
+    (subst (λ (l : List ℕ). OpeningInTime (ids image) (take 29 l)) (sym e)
+    (record {
+      opening = record { dull = []; wake = record { zeros = 16; last = 0xB0 }; packets = []; reads = (tt, (omega arith, refl), tt); whole = refl };
+      few = omega arith;
+    }))
 
 -- it never opens
 pub shut : History image (inputs 0) (calls wrong)
@@ -124,7 +127,7 @@ pub never-opens : (h : History image (inputs 0) (calls wrong)) (k : ℕ) → k �
 never-opens h k l f =
     let e : taken (h .trace) ≡ woken wrong = ap taken (trace-is h) ∙ wrong-taken in
     shut-where (ids image) (woken wrong) refl (record { log = wrong-log; reads = wrong-reads; whole = wrong-whole }) .0 tt k (omega (arith, taken-long (h .trace), ap length e))
-    (subst (λ (l : List ℕ). Opening (ids image) (take k l)) e (opens-exactly h filled k l .0 f))
+    (subst (λ (l : List ℕ). Opening (ids image) (take k l)) e (opens-exactly h filled k l .0 f .opening))
 
 -- under another protection, on an image that holds 00 where the first holds FF: nothing tells them apart up to the byte that opens them
 pub opening′ : History other (inputs 15) (calls right)

@@ -4,3 +4,4 @@ pub mod Histories
 pub mod Refusals
 pub mod Changes
 pub mod Opening
+pub mod Mismatches

@@ -1,13 +1,16 @@
 -- Demand 3: "The unit first opens exactly at the byte that completes the first right ID packet. Until then the image stays unchanged, and two units fed the same bytes,
 -- on images with the same seven ID bytes and neither blank, give equal replies and registers, whatever else the flash holds."
+-- With document 02's Item 5: "opens at the first right packet, provided fewer than three complete wrong packets came before it."
 use Prim.Native.Nat.{ℕ, suc, _+_, _<_}
 use mathlib.Core.Path.{_≡_}
 use mathlib.Core.List.{List, [], _∷_}
 use lib.ListN.{take}
+use Rattle.packets.specs.Readings.{Opening}
+use Rattle.packets.specs.Counts.{checks}
 use Rattle.unit.specs.declared.Unit.{Unit as Port}
 use Rattle.unit.specs.declared.Inputs.{Inputs}
 use Rattle.protocol.specs.Calls.{Left}
-use Rattle.demands.specs.Record.{Open}
+use Rattle.demands.specs.Record.{Open, Locked}
 use Rattle.demands.specs.Histories.{Call, Entry, History, unitAfter, At}
 
 -- before the k-th byte the unit has not been open
@@ -19,7 +22,17 @@ pub record FirstOpen (u : Port) (es : List Entry) (k : ℕ) : Type 0 where
   pub opens : Open (unitAfter u es k)
   pub before : ShutBefore u es k
 
--- two entries show the same: the same byte of the same call was taken, and its reply, SRD and SRD1 are equal
+-- the bytes end with the first right ID packet, and fewer than three complete wrong ones came before it
+pub record OpeningInTime (ids bs : List ℕ) : Type 0 where
+  pub opening : Opening ids bs
+  pub few : checks (opening .packets) < 3
+
+-- the unit is locked after k bytes, and after no fewer
+pub record FirstLocked (u : Port) (es : List Entry) (k : ℕ) : Type 0 where
+  pub locked : Locked (unitAfter u es k)
+  pub before : (j : ℕ) → j < k → Locked (unitAfter u es j) → ⊥
+
+-- two entries show the same: the same byte of the same call was taken, and its reply, SRD, SRD1 and the count of wrong ID checks are equal
 pub record SameShown (e f : Entry) : Type 0 where
   pub call : e .call ≡ f .call
   pub place : e .place ≡ f .place
@@ -27,6 +40,7 @@ pub record SameShown (e f : Entry) : Type 0 where
   pub reply : e .reply ≡ f .reply
   pub srd : e .unit .registers .srd ≡ f .unit .registers .srd
   pub srd1 : e .unit .registers .srd1 ≡ f .unit .registers .srd1
+  pub mismatches : e .unit .registers .mismatches ≡ f .unit .registers .mismatches
 
 -- two calls left the same for their callers to see: the refusal's number, the bytes taken, the reply's length and the whole reply area
 pub record SameAnswer (l m : Left) : Type 0 where

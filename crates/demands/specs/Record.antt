@@ -14,6 +14,11 @@ use Rattle.unit.specs.declared.Place.the-variants.{Command, PageRead, PageProgr
 abbrev pub Open : Port → Type 0
 Open u = u .registers .srd1 ≡ 0x0C
 
+-- the unit is locked where it is closed and three wrong ID checks have been counted (document 02, Item 5)
+pub record Locked (u : Port) : Type 0 where
+  pub closed : Open u → ⊥
+  pub three : u .registers .mismatches ≡ 3
+
 -- fewer bytes have come than a packet has whose size is its fourth byte: its total is 4 plus that byte, once that has come
 abbrev pub FewSized : ℕ → List ℕ → Type 0
 FewSized n got = (n < 4) ⊎ (n < 4 + getD got 3 0)
@@ -41,21 +46,23 @@ pub data Srd1 : ℕ → Type 0 where
   mismatch : Srd1 0x04
   match : Srd1 0x0C
 
--- a unit record in range
+-- a unit record in range: blank implies SRD1 0C, and no wrong ID check
 pub record InRange (u : Port) : Type 0 where
   pub phase : PhaseFits u (u .phase)
   pub srd : Srd (u .registers .srd)
   pub srd1 : Srd1 (u .registers .srd1)
   pub rate : u .registers .rate ≤ 4
+  pub mismatches : u .registers .mismatches ≤ 3
   pub protection : u .settings .protection ≤ 15
-  pub blank : (u .settings .blank ≡ false) ⊎ Open u
+  pub blank : (u .settings .blank ≡ false) ⊎ (Open u × (u .registers .mismatches ≡ 0))
 
--- the idle unit: asleep, count 0, SRD 80, SRD1 00, rate 0, not blank, protection 0, nothing collected
+-- the idle unit: asleep, count 0, SRD 80, SRD1 00, rate 0, no wrong ID check, not blank, protection 0, nothing collected
 pub record Idle (u : Port) : Type 0 where
   pub phase : u .phase ≡ Asleep 0
   pub srd : u .registers .srd ≡ 0x80
   pub srd1 : u .registers .srd1 ≡ 0x00
   pub rate : u .registers .rate ≡ 0
+  pub mismatches : u .registers .mismatches ≡ 0
   pub blank : u .settings .blank ≡ false
   pub protection : u .settings .protection ≡ 0
   pub collected : u .collected ≡ replicate 259 0
@@ -66,6 +73,7 @@ pub record Fresh (blank : Type 0) (p : ℕ) (u : Port) : Type 0 where
   pub srd : u .registers .srd ≡ 0x80
   pub srd1 : (blank × (u .registers .srd1 ≡ 0x0C)) ⊎ ((blank → ⊥) × (u .registers .srd1 ≡ 0x00))
   pub rate : u .registers .rate ≡ 0
+  pub mismatches : u .registers .mismatches ≡ 0
   pub blank-flag : (blank × (u .settings .blank ≡ true)) ⊎ ((blank → ⊥) × (u .settings .blank ≡ false))
   pub protection : u .settings .protection ≡ p
   pub collected : u .collected ≡ replicate 259 0

@@ -1,3 +1,4 @@
 pub mod Pieces
 pub mod Readings
+pub mod Counts
 pub mod Table

@@ -17,11 +17,11 @@ use Rattle.unit.specs.declared.Registers.{Registers}
 use Rattle.unit.specs.declared.Phase.the-variants.{Awake}
 use Rattle.unit.specs.Phases.{Kind, inside, need}
 use Rattle.unit.specs.Phases.Kind.{page-read, page-program, unit-program, block-erase, erase-all, id-check}
-use Rattle.unit.specs.Model.{whole, state, atCommand, withSrd1, noBytes, longer, ended}
+use Rattle.unit.specs.Model.{whole, state, atCommand, noBytes, longer, ended}
 use Rattle.unit.proofs.Lengths.{need-next}
 use Rattle.acts.specs.Clauses.{afterPacket}
 use Rattle.protocol.specs.Outcome.{says, quiet}
-use Rattle.protocol.specs.Endings.{pageReply, reaching, bankEnd, programmedBy, programs, erases, judged, finished}
+use Rattle.protocol.specs.Endings.{pageReply, reaching, bankEnd, programmedBy, programs, erases, isRight, afterCheck, finished}
 use Rattle.protocol.specs.Step.{body, completes, inPacket}
 use Rattle.protocol.proofs.Steps.{packet-last, packet-more, body-stored}
 
@@ -111,6 +111,6 @@ module _ (s : State) (t : Settings) (got img : List ℕ) where
   all-erased n b e = rw e
 
   -- an ID check
-  pub checked : (xs : List ℕ) (r : Registers) → r ≡ withSrd1 (s .registers) (judged (t .blank) img xs) → finished id-check (whole s t got) img xs ≡ afterPacket t r img
+  pub checked : (xs : List ℕ) (r : Registers) → r ≡ afterCheck (t .blank) (s .registers) (isRight img xs) → finished id-check (whole s t got) img xs ≡ afterPacket t r img
   unfolding finished ended
   checked xs r e = rw e

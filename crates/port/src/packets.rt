@@ -13,8 +13,8 @@ ghost use lib.ListN.{length, getD, take};
 ghost use Rattle.flash.specs.Blocks.{byteAddress};
 ghost use Rattle.unit.specs.Phases.{need};
 ghost use Rattle.unit.specs.Phases.Kind.{page-read, page-program, unit-program, block-erase, erase-all, id-check};
-ghost use Rattle.unit.specs.Model.{whole, withSrd1};
-ghost use Rattle.protocol.specs.Endings.{judged, finished};
+ghost use Rattle.unit.specs.Model.{whole};
+ghost use Rattle.protocol.specs.Endings.{isRight, afterCheck, finished};
 ghost use Rattle.protocol.specs.Step.{inPacket};
 ghost use Rattle.protocol.specs.Calls.{answered};
 ghost use Rattle.acts.specs.Clauses.{afterPacket};
@@ -177,7 +177,7 @@ pub(crate) fn erase_all(
 // An ID check whose bytes `xs` have all come: their fourth is the size.
 fn check_packet(registers: Registers, settings: Settings, image: &[u8], xs: &[u8]) -> Registers
     requires { ⌜ length (now xs) ≡ 259 ⌝ }
-    ensures { λ r. ⌜ r ≡ withSrd1 registers (judged (settings .blank) (now (image .entry)) (take (4 + getD (now (xs .entry)) 3 0) (now (xs .entry)))) ⌝ }
+    ensures { λ r. ⌜ r ≡ afterCheck (settings .blank) registers (isRight (now (image .entry)) (take (4 + getD (now (xs .entry)) 3 0) (now (xs .entry)))) ⌝ }
 {
     let n = 4 + xs[3] as usize;
     acts::check_id(registers, settings, image, &xs[..n])

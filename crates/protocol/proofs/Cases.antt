@@ -22,23 +22,23 @@ use Rattle.unit.specs.declared.Place.the-variants.{Command}
 use Rattle.unit.specs.Phases.{Kind, commandOf, need, inside, Position, positionOf}
 use Rattle.unit.specs.Phases.Kind.{page-read, page-program, unit-program, block-erase, erase-all, id-check}
 use Rattle.unit.specs.Phases.Position.{sleeping, commanding, within}
-use Rattle.unit.specs.Model.{withSrd, withSrd1, withRate, phased, longer, ended, isOpen, standing}
-use Rattle.unit.specs.Range.{srdFits, srd1Fits}
+use Rattle.unit.specs.Model.{withSrd, withRate, phased, longer, ended, isOpen, standing}
+use Rattle.unit.specs.Range.{srdFits}
 use Rattle.unit.proofs.Positions.{phase-inside}
 use Rattle.protocol.specs.Outcome.{Outcome, says, quiet}
 use Rattle.protocol.specs.Commands.{Command as Meaning, commands, lookup, meaning, needsOpen, versionBytes, effect, dropped, commanded}
 use Rattle.protocol.specs.Commands.Command.{begin, clear, status, version, time, unknown, rate}
-use Rattle.protocol.specs.Endings.{leaves, pageReply, bankEnd, programmedBy, programs, erases, isRight, judged, finished}
+use Rattle.protocol.specs.Endings.{leaves, pageReply, bankEnd, programmedBy, programs, erases, isRight, afterCheck, finished}
 use Rattle.protocol.specs.Step.{wakes, asleep, body, completes, inPacket, stepAt, step}
 use Rattle.protocol.specs.Changes.{Permitted, Carried, Done, Change}
 use Rattle.protocol.specs.Changes.Carried.{page, bytes, block, all}
 use Rattle.protocol.specs.Changes.Change.{none, last}
 
--- the registers that a packet may leave: those that were, or one of them set to a number that fits
+-- the registers that a packet may leave: those that were, or one of them set to a number that fits, or those after an ID check
 pub data Leaves (t : Settings) (r : Registers) : Registers → Type 0 where
   as-were : Leaves t r r
   srd-set : (s : ℕ) → srdFits s ≡ true → Leaves t r (withSrd r s)
-  srd1-set : (s : ℕ) → srd1Fits s ≡ true → (not (t .blank) || eqb s 0x0C) ≡ true → Leaves t r (withSrd1 r s)
+  checks : (right : Bool) → Leaves t r (afterCheck (t .blank) r right)
   rate-set : (n : ℕ) → n ≤ 4 → Leaves t r (withRate r n)
 
 -- a taken packet ends: with a reply and the image as it was, or with a new image and no reply
@@ -105,20 +105,11 @@ page-reply-long img mid high = go (pagePart part img mid high) (page-paged part 
     go (x ∷ xs) (inl e) = absurd (omega arith)
     go (x ∷ xs) (inr e) = e
 
--- what a program, an erase and an ID check leave fits
+-- what a program and an erase leave fits
 srd-fits : (good : Bool) (bad : ℕ) → srdFits bad ≡ true → srdFits (cond good 0x80 bad) ≡ true
 unfolding srdFits
 srd-fits true bad h = refl
 srd-fits false bad h = h
-
-judged-fits : (right : Bool) → srd1Fits (cond right 0x0C 0x04) ≡ true
-unfolding srd1Fits
-judged-fits true = refl
-judged-fits false = refl
-
-blank-opens : (blank right : Bool) → (not blank || eqb (cond (blank || right) 0x0C 0x04) 0x0C) ≡ true
-blank-opens true right = refl
-blank-opens false right = refl
 
 not-standing : (u : Port) → standing (u .registers) ≡ false → u .registers .srd ≡ 0x80
 unfolding standing
@@ -191,15 +182,13 @@ module _ (u : Port) (img : List ℕ) (b : ℕ) where
 
   -- a packet's last byte
   pub packet-ends : (k : Kind) (n : ℕ) → positionOf (u .phase) ≡ within k n → suc n ≡ need k (body n u b) → Ending u img b (finished k u img (body n u b))
-  unfolding finished judged
+  unfolding finished
   packet-ends page-read n e h = tells _ (omega (arith, page-reply-long img (getD (body n u b) 0 0) (getD (body n u b) 1 0)))
   packet-ends page-program n e h = ending-programs _ (λ r. program-change _ _ page-program _ (λ s m. done page-program n e h r s (page m)))
   packet-ends unit-program n e h = ending-programs _ (λ r. program-change _ _ unit-program _ (λ s m. done unit-program n e h r s (bytes m)))
   packet-ends block-erase n e h = ending-erases _ _ (λ r c. erase-change _ _ (λ s m. done block-erase n e h r s (block c m)))
   packet-ends erase-all n e h = ending-erases _ _ (λ r c. erase-all-change _ (λ s. done erase-all n e h r s (all c)))
-  packet-ends id-check n e h =
-      let right : Bool = isRight img (body n u b) in
-      says-and-ends _ [] (srd1-set _ (judged-fits (u .settings .blank || right)) (blank-opens (u .settings .blank) right)) (omega arith)
+  packet-ends id-check n e h = says-and-ends _ [] (checks (isRight img (body n u b))) (omega arith)
 
   -- a command byte that is taken
   leads-effect : (c : Meaning) → rate-fits c ≡ true → dropped c u ≡ false → Leads u img b (effect c u img b)

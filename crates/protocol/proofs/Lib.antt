@@ -1,4 +1,5 @@
 pub mod Steps
+pub mod Mismatches
 pub mod Cases
 pub mod Changes
 pub mod Sound

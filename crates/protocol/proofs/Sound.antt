@@ -21,7 +21,7 @@ use Rattle.unit.specs.Phases.Kind.{page-read, page-program, unit-program, block
 use Rattle.unit.specs.Model.{withSrd, isOpen}
 use Rattle.unit.specs.Range.{registersFit, settingsFit, packetFits, positionFits}
 use Rattle.unit.proofs.Positions.{position-inside}
-use Rattle.unit.proofs.Ranged.{Sound, fit-srd, fit-srd1, fit-rate, settings-srd, settings-srd1, settings-rate}
+use Rattle.unit.proofs.Ranged.{Sound, fit-srd, fit-rate, settings-srd, settings-rate}
 use Rattle.unit.proofs.Builders.{phased-settings, ended-settings, sound-phased, sound-ended}
 use Rattle.unit.proofs.Inside.{longer-settings, sound-longer}
 use Rattle.protocol.specs.Outcome.{Outcome}
@@ -30,22 +30,23 @@ use Rattle.protocol.specs.Changes.{Carried, Change}
 use Rattle.protocol.specs.Changes.Carried.{page, bytes, block, all}
 use Rattle.protocol.specs.Changes.Change.{none, last}
 use Rattle.protocol.proofs.Cases.{Leaves, Ending, Leads, leads}
-use Rattle.protocol.proofs.Cases.Leaves.{as-were, srd-set, srd1-set, rate-set}
+use Rattle.protocol.proofs.Cases.Leaves.{as-were, srd-set, checks, rate-set}
 use Rattle.protocol.proofs.Cases.Ending.{says-and-ends, writes-and-ends}
 use Rattle.protocol.proofs.Cases.Leads.{nothing, sleeps, wakes-up, begins, goes-on, ends}
 use Rattle.protocol.proofs.Changes.{changes}
+use Rattle.protocol.proofs.Mismatches.{check-fits, check-settings}
 
 -- the registers that a packet leaves fit, and so do the settings beside them
 registers-left : {t : Settings} {r v : Registers} → Leaves t r v → registersFit r ≡ true → registersFit v ≡ true
 registers-left as-were e = e
 registers-left {r = r} (srd-set s h) e = fit-srd r s e h
-registers-left {r = r} (srd1-set s h o) e = fit-srd1 r s e h
+registers-left {t} {r} (checks right) e = check-fits t r right e
 registers-left {r = r} (rate-set n h) e = fit-rate r n e h
 
 settings-left : {t : Settings} {r v : Registers} → Leaves t r v → settingsFit t r ≡ true → settingsFit t v ≡ true
 settings-left as-were e = e
 settings-left {t} {r} (srd-set s h) e = settings-srd t r s ∙ e
-settings-left {t} {r} (srd1-set s h o) e = settings-srd1 t r s e o
+settings-left {t} {r} (checks right) e = check-settings t r right e
 settings-left {t} {r} (rate-set n h) e = settings-rate t r n ∙ e
 
 -- a packet of no bytes yet is short

@@ -1,16 +1,17 @@
 -- Document 01, "Packets, once awake": what a packet of several bytes does at its last byte. xs is all that followed the command.
-use Prim.Native.Nat.{ℕ, _+_, _%_}
-use mathlib.Core.Bool.{Bool, true, false, cond, not, _||_}
+use Prim.Native.Nat.{ℕ, suc, min, _+_, _%_}
+use mathlib.Core.Bool.{Bool, true, false, cond, not, _&&_, _||_}
 use mathlib.Core.List.{List, [], _∷_}
 use lib.ListN.{length, getD, drop, replicate}
-use lib.Dec.{leb, eqb}
+use lib.Dec.{leb, ltb, eqb}
 use Rattle.slices.specs.Lists.{same}
 use Rattle.flash.specs.Blocks.{part, pageAddress, byteAddress}
 use Rattle.flash.specs.Image.{Written, written, storedId, pagePart, program, eraseBlock, eraseAll}
 use Rattle.unit.specs.declared.Unit.{Unit as Port}
+use Rattle.unit.specs.declared.Registers.{Registers}
 use Rattle.unit.specs.Phases.{Kind}
 use Rattle.unit.specs.Phases.Kind.{page-read, page-program, unit-program, block-erase, erase-all, id-check}
-use Rattle.unit.specs.Model.{withSrd, withSrd1, ended, standing}
+use Rattle.unit.specs.Model.{withSrd, withSrd1, withMismatches, ended, standing}
 use Rattle.protocol.specs.Outcome.{Outcome, says, quiet}
 
 -- the packet ends, with this SRD and image
@@ -67,9 +68,18 @@ rightId img = 0xDF ∷ 0xFF ∷ 0x00 ∷ 0x07 ∷ storedId part img
 unfoldable pub isRight : List ℕ → List ℕ → Bool
 isRight img xs = same xs (rightId img)
 
--- SRD1 after an ID check: a unit that started blank stays 0C; else 0C if right, 04 if not
-unfoldable pub judged : Bool → List ℕ → List ℕ → ℕ
-judged blank img xs = cond (blank || isRight img xs) 0x0C 0x04
+-- SRD1 after an ID check, right or not, after so many wrong ones: a unit that started blank stays 0C; else 0C if right and fewer than three wrong ones came before (document 02, Item 5), 04 if not
+unfoldable pub judged : Bool → ℕ → Bool → ℕ
+judged blank wrong right = cond (blank || (right && ltb wrong 3)) 0x0C 0x04
+
+-- the count of wrong ID checks after one: it rises by each that is not right, up to 3; a unit that started blank counts none
+unfoldable pub counted : Bool → ℕ → Bool → ℕ
+counted blank wrong right = cond (blank || right) wrong (min 3 (suc wrong))
+
+-- the registers after an ID check
+unfoldable pub afterCheck : Bool → Registers → Bool → Registers
+afterCheck blank r right =
+    withMismatches (withSrd1 r (judged blank (r .mismatches) right)) (counted blank (r .mismatches) right)
 
 unfoldable pub finished : Kind → Port → List ℕ → List ℕ → Outcome
 finished page-read u img xs =
@@ -81,4 +91,4 @@ finished unit-program u img xs =
 finished block-erase u img xs =
     erases u img (getD xs 2 0) (eraseBlock part (u .settings .protection) img (pageAddress (getD xs 0 0) (getD xs 1 0)))
 finished erase-all u img xs = erases u img (getD xs 0 0) (written (eraseAll part (u .settings .protection) img) true)
-finished id-check u img xs = quiet (ended u (withSrd1 (u .registers) (judged (u .settings .blank) img xs))) img
+finished id-check u img xs = quiet (ended u (afterCheck (u .settings .blank) (u .registers) (isRight img xs))) img

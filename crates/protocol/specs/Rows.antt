@@ -1,6 +1,6 @@
 -- Document 01's "Waking" and its packet table over whole packets, in words of their own: what a packet's bytes are, when a program may be carried out, what a byte or a packet leaves.
 -- The laws of proofs/Rows* say that the step does so. Nothing here cites the step or its endings.
-use Prim.Native.Nat.{ℕ, _+_, _*_, _/_, _%_, _^_, _≤_, _<_}
+use Prim.Native.Nat.{ℕ, suc, min, _+_, _*_, _/_, _%_, _^_, _≤_, _<_}
 use mathlib.Core.Path.{_≡_}
 use mathlib.Core.Logic.{_≢_, _⊎_}
 use mathlib.Core.Bool.{true}
@@ -16,7 +16,7 @@ use Rattle.unit.specs.declared.Phase.the-variants.{Awake}
 use Rattle.unit.specs.declared.Place.the-variants.{Command}
 use Rattle.unit.specs.Phases.{Kind, inside}
 use Rattle.unit.specs.Phases.Kind.{page-read, page-program, unit-program, block-erase, erase-all, id-check}
-use Rattle.unit.specs.Model.{isOpen}
+use Rattle.unit.specs.Model.{withSrd1, withMismatches, isOpen}
 use Rattle.unit.specs.Range.{inRange}
 use Rattle.protocol.specs.Outcome.{Outcome}
 
@@ -128,3 +128,7 @@ pub data Erases : List ℕ → Scope → ℕ → Type 0 where
 abbrev pub rightPacket : List ℕ → List ℕ
 rightPacket img =
     0xF5 ∷ 0xDF ∷ 0xFF ∷ 0x00 ∷ 0x07 ∷ map (byteAt part img) (0xFFDF ∷ 0xFFE3 ∷ 0xFFEB ∷ 0xFFEF ∷ 0xFFF3 ∷ 0xFFF7 ∷ 0xFFFB ∷ [])
+
+-- the registers after an ID packet that is not the right one: SRD1 04, and one more is counted, up to 3 (document 02, Item 5)
+abbrev pub afterWrong : Registers → Registers
+afterWrong r = withMismatches (withSrd1 r 0x04) (min 3 (suc (r .mismatches)))

@@ -1,4 +1,4 @@
-// The unit record of 267 bytes.
+// The unit record of 268 bytes.
 use crate::bytes;
 use unit::Phase;
 use unit::Place;
@@ -21,6 +21,9 @@ const BLOCK_ERASE: u8 = 0x20;
 const ERASE_ALL: u8 = 0xA7;
 
 const ID_CHECK: u8 = 0xF5;
+
+// Where the 259 collected bytes begin.
+const COLLECTED: usize = 9;
 
 // A record that a unit has. No other occurs: an unknown tag, a count that the tag cannot have and a blank over 1 make a case that is not well formed.
 pub(crate) fn is_unit(r: &[u8]) -> bool {
@@ -56,13 +59,14 @@ pub(crate) fn read(r: &[u8]) -> Unit {
         srd: bytes::at(r, 3),
         srd1: bytes::at(r, 4),
         rate: bytes::at(r, 7),
+        mismatches: bytes::at(r, 8),
     };
     let settings = Settings {
         blank: bytes::at(r, 5) == 1,
         protection: bytes::at(r, 6),
     };
     let mut collected = [0u8; 259];
-    slices::copy(&mut collected, bytes::rest(r, 8));
+    slices::copy(&mut collected, bytes::rest(r, COLLECTED));
     Unit {
         phase: phase,
         registers: registers,
@@ -121,12 +125,12 @@ fn standing(phase: Phase) -> Stand {
 }
 
 // The record of a unit.
-pub(crate) fn write(u: Unit) -> [u8; 267] {
+pub(crate) fn write(u: Unit) -> [u8; 268] {
     let s = standing(u.phase);
     let registers = u.registers;
     let settings = u.settings;
     let collected = u.collected;
-    let mut r = [0u8; 267];
+    let mut r = [0u8; 268];
     r[0] = s.tag;
     r[1] = bytes::low(s.count);
     r[2] = bytes::high(s.count);
@@ -135,6 +139,7 @@ pub(crate) fn write(u: Unit) -> [u8; 267] {
     r[5] = if settings.blank { 1 } else { 0 };
     r[6] = settings.protection;
     r[7] = registers.rate;
-    slices::copy(&mut r[8..], &collected);
+    r[8] = registers.mismatches;
+    slices::copy(&mut r[COLLECTED..], &collected);
     r
 }

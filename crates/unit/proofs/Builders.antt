@@ -1,8 +1,9 @@
 -- The units that the rules build: their fields, and that they are in range.
 use Prim.Native.Nat.{ℕ, _≤_}
 use native.Mathlib.Omega.{arith}
-use mathlib.Core.Bool.{Bool, true, false, cond, not-or-self}
-use mathlib.Core.Path.{_≡_, refl}
+use mathlib.Core.Bool.{Bool, true, false, cond}
+use mathlib.Core.Logic.{inl, inr}
+use mathlib.Core.Path.{_≡_, refl, _∙_}
 use mathlib.Core.List.{List}
 use lib.Dec.{eqb}
 use Rattle.flash.specs.Blocks.{part}
@@ -17,7 +18,7 @@ use Rattle.unit.specs.Phases.{positionOf}
 use Rattle.unit.specs.Model.{noBytes, begun, fresh, idle, phased, ended, isOpen}
 use Rattle.unit.specs.Range.{positionFits, srdFits, srd1Fits, registersFit, settingsFit}
 use Rattle.slices.proofs.Lists.{bytes-zeros}
-use Rattle.unit.proofs.Ranged.{Sound, registers-together, settings-together}
+use Rattle.unit.proofs.Ranged.{Sound, registers-together, BlankRule, settings-together}
 
 -- the unit in another phase
 module _ (u : Port) (f : Phase) where
@@ -83,6 +84,10 @@ module _ (blank : Bool) (inputs : Inputs) where
   unfolding begun
   begun-rate = refl
 
+  pub begun-mismatches : begun blank inputs .registers .mismatches ≡ 0
+  unfolding begun
+  begun-mismatches = refl
+
   pub begun-blank : begun blank inputs .settings .blank ≡ blank
   unfolding begun
   begun-blank = refl
@@ -108,8 +113,8 @@ module _ (blank : Bool) (inputs : Inputs) where
   sound-begun h =
       record {
         position = refl;
-        registers = registers-together (begun blank inputs .registers) refl (srd1-fits blank) (omega arith);
-        settings = settings-together _ _ h (rw begun-open (not-or-self blank));
+        registers = registers-together (begun blank inputs .registers) refl (srd1-fits blank) (omega arith) (omega arith);
+        settings = settings-together _ _ h (blank-rule blank refl);
         room = refl;
         bytes = bytes-zeros 259;
       }
@@ -117,6 +122,10 @@ module _ (blank : Bool) (inputs : Inputs) where
       srd1-fits : (t : Bool) → srd1Fits (cond t 0x0C 0x00) ≡ true
       srd1-fits true = refl
       srd1-fits false = refl
+
+      blank-rule : (t : Bool) → blank ≡ t → BlankRule (begun blank inputs .settings) (begun blank inputs .registers)
+      blank-rule true e = inr (begun-open ∙ e, begun-mismatches)
+      blank-rule false e = inl (begun-blank ∙ e)
 
 -- the fresh unit of an image
 module _ (img : List ℕ) (inputs : Inputs) where
@@ -135,6 +144,10 @@ module _ (img : List ℕ) (inputs : Inputs) where
   pub fresh-rate : fresh img inputs .registers .rate ≡ 0
   unfolding fresh begun
   fresh-rate = refl
+
+  pub fresh-mismatches : fresh img inputs .registers .mismatches ≡ 0
+  unfolding fresh begun
+  fresh-mismatches = refl
 
   pub fresh-blank : fresh img inputs .settings .blank ≡ isBlank part img
   unfolding fresh begun
@@ -172,6 +185,10 @@ idle-srd1 = refl
 pub idle-rate : idle .registers .rate ≡ 0
 unfolding idle begun
 idle-rate = refl
+
+pub idle-mismatches : idle .registers .mismatches ≡ 0
+unfolding idle begun
+idle-mismatches = refl
 
 pub idle-blank : idle .settings .blank ≡ false
 unfolding idle begun

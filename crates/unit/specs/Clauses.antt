@@ -9,7 +9,7 @@ use Rattle.unit.specs.declared.Settings.{Settings}
 use Rattle.unit.specs.declared.State.{State}
 use Rattle.unit.specs.declared.Inputs.{Inputs}
 use Rattle.unit.specs.declared.Phase.{Phase}
-use Rattle.unit.specs.Model.{fresh, idle, whole, stateOf, state, atCommand, withSrd, withSrd1, withRate, isOpen, standing}
+use Rattle.unit.specs.Model.{fresh, idle, whole, stateOf, state, atCommand, withSrd, withSrd1, withRate, withMismatches, isOpen, standing}
 use Rattle.unit.specs.Range.{inRange}
 
 abbrev pub FreshEnsures : List ℕ → Inputs → Port → Type 0
@@ -41,6 +41,9 @@ WithSrd1Ensures registers srd1 r = r ≡ withSrd1 registers srd1
 
 abbrev pub WithRateEnsures : Registers → ℕ → Registers → Type 0
 WithRateEnsures registers rate r = r ≡ withRate registers rate
+
+abbrev pub WithMismatchesEnsures : Registers → ℕ → Registers → Type 0
+WithMismatchesEnsures registers n r = r ≡ withMismatches registers n
 
 abbrev pub IsOpenEnsures : Registers → Bool → Type 0
 IsOpenEnsures registers r = r ≡ isOpen registers

@@ -21,12 +21,12 @@ use Rattle.unit.specs.Phases.{Kind, inside}
 abbrev pub noBytes : List ℕ
 noBytes = replicate 259 0
 
--- the unit that is the same for the same blankness and inputs: asleep, count 0, SRD 80, rate 0, collected bytes 0, SRD1 0C if blank and 00 if not
+-- the unit that is the same for the same blankness and inputs: asleep, count 0, SRD 80, rate 0, no wrong ID check (document 02, Item 5), collected bytes 0, SRD1 0C if blank and 00 if not
 unfoldable pub begun : Bool → Inputs → Port
 begun blank given =
     record {
       phase = Asleep 0;
-      registers = record { srd = 0x80; srd1 = cond blank 0x0C 0x00; rate = 0 };
+      registers = record { srd = 0x80; srd1 = cond blank 0x0C 0x00; rate = 0; mismatches = 0 };
       settings = record { blank = blank; protection = given .protection };
       collected = noBytes;
     }
@@ -58,13 +58,16 @@ abbrev pub atCommand : Registers → State
 atCommand r = state (Awake Command) r
 
 abbrev pub withSrd : Registers → ℕ → Registers
-withSrd r s = record { srd = s; srd1 = r .srd1; rate = r .rate }
+withSrd r s = record { srd = s; srd1 = r .srd1; rate = r .rate; mismatches = r .mismatches }
 
 abbrev pub withSrd1 : Registers → ℕ → Registers
-withSrd1 r s = record { srd = r .srd; srd1 = s; rate = r .rate }
+withSrd1 r s = record { srd = r .srd; srd1 = s; rate = r .rate; mismatches = r .mismatches }
 
 abbrev pub withRate : Registers → ℕ → Registers
-withRate r n = record { srd = r .srd; srd1 = r .srd1; rate = n }
+withRate r n = record { srd = r .srd; srd1 = r .srd1; rate = n; mismatches = r .mismatches }
+
+abbrev pub withMismatches : Registers → ℕ → Registers
+withMismatches r n = record { srd = r .srd; srd1 = r .srd1; rate = r .rate; mismatches = n }
 
 -- the unit in another phase
 unfoldable pub phased : Port → Phase → Port

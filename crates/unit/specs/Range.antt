@@ -32,11 +32,14 @@ unfoldable pub srd1Fits : ℕ → Bool
 srd1Fits s = eqb s 0x00 || (eqb s 0x04 || eqb s 0x0C)
 
 unfoldable pub registersFit : Registers → Bool
-registersFit r = srdFits (r .srd) && (srd1Fits (r .srd1) && leb (r .rate) 4)
+registersFit r = srdFits (r .srd) && (srd1Fits (r .srd1) && (leb (r .rate) 4 && leb (r .mismatches) 3))
 
--- blank implies SRD1 0C
+-- blank implies SRD1 0C, and that no wrong ID check was counted (document 02, Item 5)
+unfoldable pub blankFits : Registers → Bool
+blankFits r = isOpen r && eqb (r .mismatches) 0
+
 unfoldable pub settingsFit : Settings → Registers → Bool
-settingsFit t r = leb (t .protection) 15 && (not (t .blank) || isOpen r)
+settingsFit t r = leb (t .protection) 15 && (not (t .blank) || blankFits r)
 
 unfoldable pub inRange : Port → Bool
 inRange u =

@@ -3,8 +3,8 @@ ghost use mathlib.Core.Path.{_≡_};
 ghost use Rattle.unit.specs.declared.Phase.the-variants.{Awake};
 ghost use Rattle.unit.specs.Phases.{positionOf};
 ghost use Rattle.unit.specs.Model.{begun};
-ghost use Rattle.unit.specs.Range.{positionFits, sizeAlone, srdFits, srd1Fits, registersFit, settingsFit};
-ghost use Rattle.unit.specs.Clauses.{FreshEnsures, IdleEnsures, OfEnsures, StateEnsures, InRangeEnsures, AtEnsures, AtCommandEnsures, WithSrdEnsures, WithSrd1Ensures, WithRateEnsures, IsOpenEnsures, IsStandingEnsures};
+ghost use Rattle.unit.specs.Range.{positionFits, sizeAlone, srdFits, srd1Fits, registersFit, blankFits, settingsFit};
+ghost use Rattle.unit.specs.Clauses.{FreshEnsures, IdleEnsures, OfEnsures, StateEnsures, InRangeEnsures, AtEnsures, AtCommandEnsures, WithSrdEnsures, WithSrd1Ensures, WithRateEnsures, WithMismatchesEnsures, IsOpenEnsures, IsStandingEnsures};
 
 // Awake at a command, or inside a packet: which one, and how many bytes have come since its command.
 pub enum Place {
@@ -23,11 +23,12 @@ pub enum Phase {
     Awake(Place),
 }
 
-// What bytes change.
+// What bytes change: SRD, SRD1, the rate index, and the count of wrong ID checks since start.
 pub struct Registers {
     pub srd: u8,
     pub srd1: u8,
     pub rate: u8,
+    pub mismatches: u8,
 }
 
 // What start fixes for good.
@@ -94,6 +95,9 @@ impl Unit {
 
     pub const MAX_RATE: u8 = 4;
 
+    // So many wrong ID checks lock a unit.
+    pub const MAX_MISMATCHES: u8 = 3;
+
     // The fresh unit of an image.
     pub fn fresh(image: &[u8], inputs: Inputs) -> Unit
         ensures { λ r. ⌜ FreshEnsures (now (image .entry)) inputs r ⌝ }
@@ -121,6 +125,7 @@ impl Unit {
             srd: Unit::READY,
             srd1: srd1,
             rate: 0,
+            mismatches: 0,
         };
         let settings = Settings {
             blank: blank,
@@ -217,6 +222,13 @@ impl Registers {
         self
     }
 
+    pub fn with_mismatches(mut self, mismatches: u8) -> Registers
+        ensures { λ r. ⌜ WithMismatchesEnsures self mismatches r ⌝ }
+    {
+        self.mismatches = mismatches;
+        self
+    }
+
     pub fn is_open(self) -> bool
         ensures { λ r. ⌜ IsOpenEnsures self r ⌝ }
     {
@@ -233,7 +245,16 @@ impl Registers {
     fn fit(self) -> bool
         ensures { λ r. ⌜ r ≡ registersFit self ⌝ }
     {
-        srd_fits(self.srd) && (srd1_fits(self.srd1) && self.rate <= Unit::MAX_RATE)
+        srd_fits(self.srd)
+            && (srd1_fits(self.srd1)
+                && (self.rate <= Unit::MAX_RATE && self.mismatches <= Unit::MAX_MISMATCHES))
+    }
+
+    // As those of a unit that started blank: open, and no wrong ID check.
+    fn fit_blank(self) -> bool
+        ensures { λ r. ⌜ r ≡ blankFits self ⌝ }
+    {
+        self.is_open() && self.mismatches == 0
     }
 }
 
@@ -259,7 +280,7 @@ impl Settings {
     fn fit(self, registers: Registers) -> bool
         ensures { λ r. ⌜ r ≡ settingsFit self registers ⌝ }
     {
-        self.protection <= Unit::MAX_PROTECTION && (!self.blank || registers.is_open())
+        self.protection <= Unit::MAX_PROTECTION && (!self.blank || registers.fit_blank())
     }
 }
 

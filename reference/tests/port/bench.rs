@@ -1,6 +1,6 @@
 //! The bench program's text.
 
-use crate::support::{barely_blank, woken, WORKED_EXAMPLE};
+use crate::support::{barely_blank, woken, ID_PACKET, WORKED_EXAMPLE, WRONG_ID_PACKET};
 use reference::bench::text;
 use reference::sessions::image;
 
@@ -36,6 +36,17 @@ fn a_page_is_one_line_and_the_last_line_shows_the_registers() {
         text(Some(&blank), &input),
         format!("17: B0\n{page}\nend B0 0C\n")
     );
+}
+
+#[test]
+fn the_right_id_opens_after_two_wrong_ones_and_not_after_three() {
+    for (count, expected) in [
+        (2, "17: B0\n40: 80 0C\nend 80 0C\n"),
+        (3, "17: B0\n45: 80 04\nend 80 04\n"),
+    ] {
+        let packets = [&WRONG_ID_PACKET.repeat(count)[..], &ID_PACKET, &[0x70]].concat();
+        assert_eq!(text(Some(&image()), &woken(&packets)), expected);
+    }
 }
 
 #[test]

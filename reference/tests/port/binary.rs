@@ -103,9 +103,9 @@ fn replay() {
     let output = reference(&["replay"], &here, &[]);
     assert_eq!((output.status.code(), output.stdout), (Some(0), vec![]));
     // An empty image and no groups; the start is refused.
-    let mut batch = framed(&[0; 3 + 267 + 7]);
+    let mut batch = framed(&[0; 3 + 268 + 7]);
     let output = reference(&["replay"], &here, &batch);
-    let mut idle = [0; 267];
+    let mut idle = [0; 268];
     idle[3] = 0x80;
     let expected = [&[1][..], &idle, &idle].concat();
     assert_eq!(output.stdout, expected);

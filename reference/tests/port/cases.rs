@@ -1,38 +1,41 @@
 //! The case format, with cases built by hand here.
 
-use crate::support::{framed, in_packet};
+use crate::support::{framed, in_packet, WRONG_ID_PACKET};
 use reference::cases::{replay, Stop};
 use reference::record::{decode, encode, Record, RECORD_LEN};
 use reference::{Command, Unit};
 
-/// The eight bytes of a record before the collected ones.
-type Head = [u8; 8];
+/// The nine bytes of a record before the collected ones.
+type Head = [u8; 9];
 
 /// Heads of units that are out of range.
-const OUT_OF_RANGE: [Head; 13] = [
-    [0x00, 17, 0, 0x80, 0x00, 0, 0, 0],
-    [0x00, 255, 0, 0x00, 0xFF, 1, 255, 255],
-    [0x01, 0, 0, 0x80, 0x00, 1, 0, 0],
-    [0x01, 0, 0, 0x80, 0x00, 0, 16, 0],
-    [0x01, 0, 0, 0x81, 0x08, 1, 16, 5],
-    [0xFF, 0, 0, 0x80, 0x04, 0, 0, 0],
-    [0xFF, 2, 0, 0x80, 0x0C, 0, 0, 0],
-    [0xFF, 0xFF, 0xFF, 0x7F, 0x00, 0, 0, 0],
-    [0x41, 0x02, 0x01, 0x80, 0x0C, 0, 0, 0],
-    [0x49, 3, 0, 0x80, 0x04, 0, 0, 0],
-    [0x49, 0xFF, 0xFF, 0x80, 0x0C, 0, 0, 0],
-    [0x20, 3, 0, 0x80, 0x0C, 0, 0, 0],
-    [0xA7, 1, 0, 0x80, 0x0C, 0, 0, 0],
+const OUT_OF_RANGE: [Head; 16] = [
+    [0x00, 17, 0, 0x80, 0x00, 0, 0, 0, 0],
+    [0x00, 255, 0, 0x00, 0xFF, 1, 255, 255, 255],
+    [0x01, 0, 0, 0x80, 0x00, 1, 0, 0, 0],
+    [0x01, 0, 0, 0x80, 0x00, 0, 16, 0, 0],
+    [0x01, 0, 0, 0x81, 0x08, 1, 16, 5, 0],
+    [0xFF, 0, 0, 0x80, 0x04, 0, 0, 0, 0],
+    [0xFF, 2, 0, 0x80, 0x0C, 0, 0, 0, 0],
+    [0xFF, 0xFF, 0xFF, 0x7F, 0x00, 0, 0, 0, 0],
+    [0x41, 0x02, 0x01, 0x80, 0x0C, 0, 0, 0, 0],
+    [0x49, 3, 0, 0x80, 0x04, 0, 0, 0, 0],
+    [0x49, 0xFF, 0xFF, 0x80, 0x0C, 0, 0, 0, 0],
+    [0x20, 3, 0, 0x80, 0x0C, 0, 0, 0, 0],
+    [0xA7, 1, 0, 0x80, 0x0C, 0, 0, 0, 0],
+    [0x01, 0, 0, 0x80, 0x04, 0, 0, 0, 4],
+    [0x00, 0, 0, 0x80, 0x00, 0, 0, 0, 255],
+    [0x01, 0, 0, 0x80, 0x0C, 1, 0, 0, 1],
 ];
 
 /// Heads that no unit has: an unknown tag, a count at a command, a blank byte over 1.
 const NO_UNIT: [Head; 6] = [
-    [0x02, 0, 0, 0x80, 0x00, 0, 0, 0],
-    [0x71, 0, 0, 0x80, 0x00, 0, 0, 0],
-    [0x01, 1, 0, 0x80, 0x00, 0, 0, 0],
-    [0x01, 0, 2, 0x80, 0x00, 0, 0, 0],
-    [0x00, 0, 0, 0x80, 0x00, 2, 0, 0],
-    [0x01, 0, 0, 0x33, 0x44, 2, 0, 0],
+    [0x02, 0, 0, 0x80, 0x00, 0, 0, 0, 0],
+    [0x71, 0, 0, 0x80, 0x00, 0, 0, 0, 0],
+    [0x01, 1, 0, 0x80, 0x00, 0, 0, 0, 0],
+    [0x01, 0, 2, 0x80, 0x00, 0, 0, 0, 0],
+    [0x00, 0, 0, 0x80, 0x00, 2, 0, 0, 0],
+    [0x01, 0, 0, 0x33, 0x44, 2, 0, 0, 0],
 ];
 
 /// A case's body, put together field by field.
@@ -130,13 +133,13 @@ fn stopped(batch: &[u8]) -> (Vec<u8>, u64) {
 
 fn record(head: Head, collected: u8) -> Record {
     let mut record = [collected; RECORD_LEN];
-    record[..8].copy_from_slice(&head);
+    record[..9].copy_from_slice(&head);
     record
 }
 
 /// The idle unit's record.
 fn idle() -> Record {
-    record([0x00, 0, 0, 0x80, 0x00, 0, 0, 0], 0)
+    record([0x00, 0, 0, 0x80, 0x00, 0, 0, 0, 0], 0)
 }
 
 #[test]
@@ -149,17 +152,18 @@ fn records() {
         blank: true,
         protection: 9,
         rate: 3,
+        mismatches: 2,
         collected: [0; 259],
     };
     unit.collected[0] = 0xAA;
     unit.collected[258] = 0xBB;
-    let mut expected = record([0x41, 0x01, 0x01, 0xB0, 0x0C, 1, 9, 3], 0);
-    expected[8] = 0xAA;
-    expected[266] = 0xBB;
+    let mut expected = record([0x41, 0x01, 0x01, 0xB0, 0x0C, 1, 9, 3, 2], 0);
+    expected[9] = 0xAA;
+    expected[267] = 0xBB;
     assert_eq!(encode(&unit), expected);
     assert_eq!(decode(&expected), Some(unit));
     // Out of range is not out of the format: such a record too comes back bit for bit.
-    let in_range = [0xF5, 4, 0, 0x80, 0x04, 0, 0, 0];
+    let in_range = [0xF5, 4, 0, 0x80, 0x04, 0, 0, 0, 0];
     for head in OUT_OF_RANGE.into_iter().chain([in_range]) {
         let given = record(head, 0x66);
         assert_eq!(encode(&decode(&given).unwrap()), given);
@@ -177,14 +181,14 @@ fn an_empty_batch() {
 #[test]
 fn a_start_alone() {
     let output = answer(&Case::started(6).batch());
-    let blank = record([0x00, 0, 0, 0x80, 0x0C, 1, 6, 0], 0);
+    let blank = record([0x00, 0, 0, 0x80, 0x0C, 1, 6, 0, 0], 0);
     let expected = [&[0][..], &blank, &blank, &[0xFF; 20_480]].concat();
     assert_eq!(output, expected);
 }
 
 #[test]
 fn refused_starts_go_on_with_the_idle_unit() {
-    let one_zero_more = record([0x00, 1, 0, 0x80, 0x00, 0, 0, 0], 0);
+    let one_zero_more = record([0x00, 1, 0, 0x80, 0x00, 0, 0, 0, 0], 0);
     for (image_len, refusal, call, after) in [
         (20_480, 2, [0, 1, 0, 0, 0, 0x80, 0x00], one_zero_more),
         (3, 1, [1, 0, 0, 0, 0, 0x80, 0x00], idle()),
@@ -198,7 +202,7 @@ fn refused_starts_go_on_with_the_idle_unit() {
 
 #[test]
 fn byte_calls_have_an_area_each_and_a_run_has_one() {
-    let unit = record([0x01, 0, 0, 0x80, 0x04, 0, 0, 0], 0x11);
+    let unit = record([0x01, 0, 0, 0x80, 0x04, 0, 0, 0, 0], 0x11);
     let case = Case::given(unit)
         .group(0, 257, 0xEE, &[0x70, 0x99])
         .group(1, 256, 0xDD, &[0xB1, 0xB2])
@@ -220,7 +224,7 @@ fn byte_calls_have_an_area_each_and_a_run_has_one() {
         &[0xCC; 258],
         &[3, 0, 0, 0, 0, 0x80, 0x04],
         &[0xBB; 255],
-        &record([0x01, 0, 0, 0x80, 0x04, 0, 0, 1], 0),
+        &record([0x01, 0, 0, 0x80, 0x04, 0, 0, 1, 0], 0),
         &[0xFF; 20_480],
     ]
     .concat();
@@ -229,7 +233,7 @@ fn byte_calls_have_an_area_each_and_a_run_has_one() {
 
 #[test]
 fn with_trace_the_image_follows_every_call() {
-    let unit = record([0xA7, 0, 0, 0x80, 0x0C, 0, 1, 0], 0);
+    let unit = record([0xA7, 0, 0, 0x80, 0x0C, 0, 1, 0, 0], 0);
     let case = Case {
         trace: 1,
         fill: 0x00,
@@ -241,10 +245,24 @@ fn with_trace_the_image_follows_every_call() {
     let expected = [
         &call[..],
         &call,
-        &record([0x01, 0, 0, 0x80, 0x0C, 0, 1, 0], 0),
+        &record([0x01, 0, 0, 0x80, 0x0C, 0, 1, 0, 0], 0),
         &image,
     ]
     .concat();
+    assert_eq!(answer(&case.batch()), expected);
+}
+
+#[test]
+fn the_count_of_wrong_checks_is_read_and_written() {
+    let unit = record([0x01, 0, 0, 0x80, 0x00, 0, 0, 0, 2], 0);
+    let expected = [
+        &[0, 5, 0, 0, 0, 0x80, 0x04][..],
+        &[0; 256],
+        &record([0x01, 0, 0, 0x80, 0x04, 0, 0, 0, 3], 0),
+        &[0xFF; 20_480],
+    ]
+    .concat();
+    let case = Case::given(unit).group(1, 256, 0, &WRONG_ID_PACKET);
     assert_eq!(answer(&case.batch()), expected);
 }
 
@@ -289,7 +307,7 @@ fn a_unit_out_of_range_is_handed_back_as_given() {
 
 #[test]
 fn the_largest_run_and_area() {
-    let unit = record([0x01, 0, 0, 0x80, 0x0C, 0, 0, 0], 0);
+    let unit = record([0x01, 0, 0, 0x80, 0x0C, 0, 0, 0, 0], 0);
     let bytes = [0xFF, 0x30, 0x00].repeat(21_000);
     let output = answer(&Case::given(unit).group(1, 16_384, 0, &bytes).batch());
     // 64 pages fill the area; the run stops before the byte after the last.

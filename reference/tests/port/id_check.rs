@@ -1,6 +1,6 @@
 //! The ID check: what it wants, what it compares with, and when it closes the unit again.
 
-use crate::support::{status_after, ID_ADDRESSES, ID_PACKET};
+use crate::support::{status_after, ID_ADDRESSES, ID_PACKET, WRONG_ID_PACKET};
 use reference::sessions::{unit_program, Rig, IDS};
 use reference::{start, Phase};
 
@@ -77,8 +77,7 @@ fn the_stored_id_bytes_are_at_their_seven_addresses() {
 fn a_wrong_check_closes_again_and_50_does_not_touch_srd1() {
     let mut rig = Rig::open(0);
     assert_eq!(status_after(&mut rig, &[0x50]), MATCH);
-    let wrong = [0xF5, 0xDF, 0xFF, 0x00, 0x00];
-    assert_eq!(status_after(&mut rig, &wrong), MISMATCH);
+    assert_eq!(status_after(&mut rig, &WRONG_ID_PACKET), MISMATCH);
     assert_eq!(status_after(&mut rig, &[0x50]), MISMATCH);
     // Closed again: a page read is dropped.
     assert_eq!(rig.feed(&[0xFF, 0x20, 0x00]), []);

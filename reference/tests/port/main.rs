@@ -1,5 +1,5 @@
-//! The tests of the second program: expected values typed from document 01, Item 3 of document 02
-//! and CASES.md.
+//! The tests of the second program: expected values typed from document 01, Items 3 and 5 of
+//! document 02 and CASES.md.
 
 mod bench;
 mod binary;
@@ -8,6 +8,7 @@ mod collected;
 mod edges;
 mod flash;
 mod id_check;
+mod mismatches;
 mod packets;
 mod program_erase;
 mod random;

@@ -27,6 +27,7 @@ fn every_byte_at_a_command_of_a_closed_unit() {
         let mut rig = Rig::closed(0);
         rig.unit.srd = 0xB0;
         rig.unit.rate = 2;
+        rig.unit.mismatches = 2;
         rig.unit.collected = [9; 259];
         let mut expected = rig.unit.clone();
         let reply = rig.feed(&[b]);
@@ -55,6 +56,7 @@ fn every_byte_at_a_command_of_an_open_unit() {
     for b in 0..=0xFF {
         let mut rig = Rig::open(0);
         rig.unit.srd = 0xB0;
+        rig.unit.mismatches = 2;
         rig.unit.collected = [9; 259];
         let mut expected = rig.unit.clone();
         rig.feed(&[b]);

@@ -1,8 +1,10 @@
 //! Short made-up streams: laws that hold for every stream.
 
-use crate::support::{is_protected, woken, CELLS, ID_ADDRESSES, ID_PACKET};
+use crate::support::{
+    barely_blank, is_protected, woken, CELLS, ID_ADDRESSES, ID_PACKET, WRONG_ID_PACKET,
+};
 use reference::sessions::image;
-use reference::{byte, run, start, Phase, Unit};
+use reference::{byte, run, start, Command, Phase, Unit};
 
 /// A small generator (xorshift), the same numbers every time.
 struct Numbers(u32);
@@ -19,7 +21,7 @@ impl Numbers {
     fn stream(&mut self) -> Vec<u8> {
         let pieces: [&[u8]; 18] = [
             &ID_PACKET,
-            &[0xF5, 0xDF, 0xFF, 0x00, 0x00],
+            &WRONG_ID_PACKET,
             &[0xFF, 0x20, 0x00],
             &[0xFF, 0xE1, 0x00],
             &[0x41, 0x28, 0x00],
@@ -50,6 +52,21 @@ impl Numbers {
     }
 }
 
+/// The image of a round: the sessions' one for each protection, then a blank one, whose unit no
+/// wrong ID closes.
+fn image_of_round(round: u8) -> Vec<u8> {
+    if round < 16 {
+        image()
+    } else {
+        barely_blank()
+    }
+}
+
+/// Image offsets of the seven ID bytes.
+fn id_offsets() -> [usize; 7] {
+    ID_ADDRESSES.map(|address| address as usize - 0xB000)
+}
+
 fn protected_cells(protection: u8, image: &[u8]) -> Vec<u8> {
     let mut cells = Vec::new();
     for (block, range) in CELLS.into_iter().enumerate() {
@@ -67,16 +84,15 @@ fn a_run_equals_its_bytes_one_by_one() {
         let protection = round % 16;
         let stream = numbers.stream();
         let area_len = 256 + numbers.next(2000);
-        let unit = start(&image(), protection).1;
+        let mut image = image_of_round(round);
+        let mut unit = start(&image, protection).1;
 
         let mut run_unit = unit.clone();
-        let mut run_image = image();
+        let mut run_image = image.clone();
         let mut run_area = vec![0xA5; area_len];
         let answer = run(&mut run_unit, &mut run_image, &stream, &mut run_area);
         assert_eq!(answer.refusal, 0);
 
-        let mut unit = unit;
-        let mut image = image();
         let mut expected = Vec::new();
         let mut taken = 0;
         for &b in &stream {
@@ -103,7 +119,7 @@ fn units_stay_in_range_and_protected_blocks_unchanged() {
     let mut numbers = Numbers(0x0BAD_CAFE);
     for round in 0..32 {
         let protection = round % 16;
-        let mut image = image();
+        let mut image = image_of_round(round);
         let guarded = protected_cells(protection, &image);
         let mut unit = start(&image, protection).1;
         let mut area = [0; 256];
@@ -123,7 +139,7 @@ fn until_it_opens_the_image_stays_and_only_the_id_bytes_can_be_felt() {
         let mut one = image();
         // The same ID bytes, everything else another, still not blank.
         let mut other: Vec<u8> = (0..20_480).map(|_| numbers.next(256) as u8).collect();
-        for offset in ID_ADDRESSES.map(|address| address as usize - 0xB000) {
+        for offset in id_offsets() {
             other[offset] = one[offset];
         }
         other[20_476] = 0x00;
@@ -147,5 +163,41 @@ fn until_it_opens_the_image_stays_and_only_the_id_bytes_can_be_felt() {
                 assert_eq!((b, one_answer.reply_len), (0x37, 0));
             }
         }
+    }
+}
+
+#[test]
+fn open_exactly_where_the_last_check_was_right_and_fewer_than_three_were_wrong() {
+    let mut numbers = Numbers(0x00C0_FFEE);
+    for _ in 0..32 {
+        let mut image = image();
+        let mut unit = start(&image, 0).1;
+        let mut area = [0; 256];
+        let (mut srd1, mut wrong) = (0x00, 0);
+        for b in numbers.stream() {
+            let before = unit.clone();
+            byte(&mut unit, &mut image, &mut area, b);
+            if let Some(packet) = ended_check(&before, &unit, b) {
+                let id = id_offsets().map(|offset| image[offset]);
+                let right = packet == [&[0xDF, 0xFF, 0x00, 0x07][..], &id].concat();
+                wrong += u8::from(!right);
+                srd1 = if right && wrong < 3 { 0x0C } else { 0x04 };
+            }
+            assert_eq!((unit.srd1, unit.mismatches), (srd1, wrong.min(3)));
+        }
+    }
+}
+
+/// The ID packet that this byte ended, without its command byte.
+fn ended_check(before: &Unit, after: &Unit, b: u8) -> Option<Vec<u8>> {
+    match before.phase {
+        Phase::InPacket {
+            command: Command::IdCheck,
+            received,
+        } if after.phase == Phase::AtCommand => {
+            let earlier = &before.collected[..usize::from(received)];
+            Some([earlier, &[b]].concat())
+        }
+        _ => None,
     }
 }

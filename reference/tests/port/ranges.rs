@@ -94,6 +94,26 @@ fn protection_and_rate() {
 }
 
 #[test]
+fn mismatches_are_at_most_3_and_0_if_blank() {
+    for mismatches in 0..=0xFF {
+        for srd1 in [0x00, 0x04, 0x0C] {
+            let unit = Unit {
+                srd1,
+                mismatches,
+                ..open()
+            };
+            assert_eq!(accepted(&unit), mismatches <= 3);
+        }
+        let blank = Unit {
+            blank: true,
+            mismatches,
+            ..open()
+        };
+        assert_eq!(accepted(&blank), mismatches == 0);
+    }
+}
+
+#[test]
 fn fixed_packets_have_received_fewer_than_they_have() {
     let totals = [
         (Command::PageRead, 2),
@@ -144,7 +164,7 @@ fn a_packet_needs_an_open_unit_but_f5() {
 
 #[test]
 fn unreachable_but_in_range() {
-    // Asleep and open though not blank, with error bits, a rate and collected bytes.
+    // Asleep and open though not blank and locked, with error bits, a rate and collected bytes.
     let unit = Unit {
         phase: Phase::Asleep { zeros: 7 },
         srd: 0xB0,
@@ -152,6 +172,7 @@ fn unreachable_but_in_range() {
         blank: false,
         protection: 15,
         rate: 4,
+        mismatches: 3,
         collected: [0xFF; 259],
     };
     assert!(accepted(&unit));
@@ -171,7 +192,13 @@ fn one_fault_is_enough() {
     unit.srd = 0x81;
     assert!(!accepted(&unit));
     unit.srd = 0x90;
+    unit.mismatches = 4;
+    assert!(!accepted(&unit));
+    unit.mismatches = 3;
+    assert!(accepted(&unit));
     unit.blank = true;
+    assert!(!accepted(&unit));
+    unit.mismatches = 0;
     assert!(accepted(&unit));
     unit.srd1 = 0x04;
     assert!(!accepted(&unit));

@@ -19,6 +19,7 @@ fn awake() -> Unit {
     unit.srd = 0xA0;
     unit.srd1 = 0x0C;
     unit.rate = 3;
+    unit.mismatches = 2;
     unit.collected = [0x5A; 259];
     unit
 }
@@ -84,6 +85,7 @@ fn fresh_units() {
         blank: false,
         protection: 0,
         rate: 0,
+        mismatches: 0,
         collected: [0; 259],
     };
     assert_eq!(Unit::idle(), idle);
@@ -190,14 +192,14 @@ fn the_reply_fills_the_front_and_the_rest_keeps_its_bytes() {
 #[test]
 fn the_blank_flag_decides_not_the_lent_image() {
     let mut area = [0; 256];
-    // A blank unit on an image that is not blank: a wrong ID keeps it open.
+    // A blank unit on an image that is not blank: a wrong ID keeps it open and does not count.
     let mut unit = start(&[0xFF; 20_480], 0).1;
     unit.phase = Phase::AtCommand;
     let wrong = [0xF5, 0x00, 0x00, 0x00, 0x00];
     run(&mut unit, &mut image(), &wrong, &mut area);
-    assert_eq!((unit.srd1, unit.blank), (0x0C, true));
-    // A unit that is not blank on a blank image: a wrong ID closes it.
+    assert_eq!((unit.srd1, unit.blank, unit.mismatches), (0x0C, true, 0));
+    // A unit that is not blank on a blank image: a wrong ID closes it, and here is the third.
     let mut unit = awake();
     run(&mut unit, &mut [0xFF; 20_480], &wrong, &mut area);
-    assert_eq!((unit.srd1, unit.blank), (0x04, false));
+    assert_eq!((unit.srd1, unit.blank, unit.mismatches), (0x04, false, 3));
 }

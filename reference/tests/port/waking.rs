@@ -54,6 +54,7 @@ fn waking_changes_no_other_field() {
     rig.unit.srd = 0xB0;
     rig.unit.srd1 = 0x0C;
     rig.unit.rate = 4;
+    rig.unit.mismatches = 2;
     rig.unit.collected = [0x77; 259];
     let mut expected = rig.unit.clone();
     expected.phase = Phase::AtCommand;

@@ -2,6 +2,7 @@
 use mathlib.Core.Path.{ap, _∙_}
 use denote.Ref.{now}
 use Rattle.slices.specs.Lists.{same}
+use Rattle.protocol.specs.Endings.{isRight}
 use Rattle.acts.proofs.IdLaws.{right-bytes}
 use borrow.Author.Needs.{needs}
 use Rattle.acts.proofs.is_right.Statement.{statement}
@@ -38,6 +39,7 @@ is-same-requires : tie.Need-is-same-requires
 is-same-requires c κs = search needs
 
 returns : tie.Need-returns
+unfolding isRight
 returns c =
     let a = c .before .before .before .before .before .args in
     c .is-same .ensures ∙ ap (same (now (a .xs))) (right-bytes (now (a .image)) (c .before .before .id .result) (c .before .before .id .ensures))

@@ -1,4 +1,4 @@
--- `unit::Settings::fit` meets its contract: the code tests protection, blankness and openness in the definition's order, and where a test decides, the definition computes.
+-- `unit::Settings::fit` meets its contract: the code tests protection, blankness and what blankness asks of the registers in the definition's order, and where a test decides, the definition computes.
 use native.Mathlib.Omega.{arith}
 use mathlib.Core.Path.{_∙_}
 use borrow.Author.Tests.{lt-leb, le-leb}
@@ -7,8 +7,8 @@ use Rattle.unit.specs.Range.{settingsFit}
 use Rattle.unit.proofs.Settings.fit.Statement.{statement}
 use Rattle.unit.proofs.Settings.fit.Tie as tie
 
-is-open-requires : tie.Need-is-open-requires
-is-open-requires c κs = search needs
+fit-blank-requires : tie.Need-fit-blank-requires
+fit-blank-requires c κs = search needs
 
 returns : tie.Need-returns
 unfolding settingsFit
@@ -20,7 +20,7 @@ returns-2 : tie.Need-returns-2
 unfolding settingsFit
 returns-2 c =
     let p = c .before .before .before .before .before .args .self .protection in
-    c .is-open .ensures ∙ simp (le-leb p 15 (omega arith), c .before .if2 .left)
+    c .fit-blank .ensures ∙ simp (le-leb p 15 (omega arith), c .before .if2 .left)
 
 returns-3 : tie.Need-returns-3
 unfolding settingsFit
@@ -28,4 +28,4 @@ returns-3 c =
     let p = c .before .before .args .self .protection in simp (lt-leb p 15 (omega arith))
 
 pub fit-spec : {M : Type 1} → statement M
-fit-spec = tie.close (tie.spec is-open-requires returns returns-2 returns-3)
+fit-spec = tie.close (tie.spec fit-blank-requires returns returns-2 returns-3)

@@ -1,0 +1,228 @@
+-- Document 02's Item 5, at any moment of a history. The rows of the packet table say what an ID packet leaves, and they hold wherever a unit stands at a command;
+-- a byte that is not the last of an ID packet sets SRD or the rate, or no register; and a locked unit stays locked by the step.
+use Prim.Native.Nat.{ℕ, suc, _+_, _-_, _≤_, _<_}
+use native.Mathlib.Omega.{arith}
+use native.Mathlib.Decide.{decLt}
+use mathlib.Core.Bool.{Bool, true, false, not}
+use mathlib.Core.Logic.{_⊎_, inl, inr}
+use mathlib.Core.Path.{_≡_, refl, ap, sym, _∙_, subst, subst⁻¹}
+use mathlib.Core.List.{List, [], _∷_}
+use lib.ListN.{length, take, drop, length-drop}
+use lib.Seq.{length-take-le}
+use lib.Dec.{eqb}
+use borrow.Author.Tests.{eqb-true}
+use Rattle.packets.specs.Pieces.{packetBytes, right}
+use Rattle.packets.proofs.Decisions.{list?}
+use Rattle.slices.specs.Lists.{Each, Bytes}
+use Rattle.slices.proofs.Lists.{cond-elim, bytes-take, bytes-drop}
+use Rattle.flash.specs.Blocks.{part}
+use Rattle.flash.specs.Image.{Written, isBlank}
+use Rattle.unit.specs.declared.Unit.{Unit as Port}
+use Rattle.unit.specs.declared.Registers.{Registers}
+use Rattle.unit.specs.declared.Settings.{Settings}
+use Rattle.unit.specs.declared.Inputs.{Inputs}
+use Rattle.unit.specs.declared.Phase.the-variants.{Awake}
+use Rattle.unit.specs.declared.Place.the-variants.{Command}
+use Rattle.unit.specs.Phases.{Kind, commandOf, need, Position, positionOf}
+use Rattle.unit.specs.Phases.Kind.{page-read, page-program, unit-program, block-erase, erase-all, id-check}
+use Rattle.unit.specs.Phases.Position.{sleeping, commanding, within}
+use Rattle.unit.specs.Model.{phased, longer, ended, standing}
+use Rattle.unit.proofs.Ranged.{Sound, sound, registers-mismatches}
+use Rattle.unit.proofs.Builders.{fresh-blank}
+use Rattle.protocol.specs.Outcome.{Outcome}
+use Rattle.protocol.specs.Commands.{Command as Meaning, meaning, effect, dropped, commanded}
+use Rattle.protocol.specs.Commands.Command.{begin, clear, status, version, time, unknown, rate}
+use Rattle.protocol.specs.Endings.{programs, erases, finished}
+use Rattle.protocol.specs.Step.{wakes, asleep, body, completes, inPacket, stepAt, step, run}
+use Rattle.protocol.specs.Rows.{Ready, Ends, Kept, Row, rightPacket}
+use Rattle.protocol.specs.Rows.Row.{after-F5 as row-F5}
+use Rattle.protocol.proofs.RowsCheck.{check-right, check-locked, check-wrong}
+use Rattle.demands.specs.Record.{Locked, InRange}
+use Rattle.demands.specs.Flash.{ids, Blank}
+use Rattle.demands.specs.Histories.{Call, brings, Entry, Goes, History, unitAfter, imageAfter, taken, At}
+use Rattle.protocol.specs.Calls.{Left}
+use Rattle.demands.specs.Changes.{bytesTo}
+use Rattle.demands.specs.Mismatches.{IdPacket, Right, Checked, Counting}
+use Rattle.demands.specs.Mismatches.IdPacket.{after-F5}
+use Rattle.demands.specs.Mismatches.Checked.{opens, stays-shut, counts}
+use Rattle.demands.specs.Mismatches.Counting.{kept, last}
+use Rattle.demands.proofs.Traces.{Stepped, taken-bytes, taken-long, unit-next, unit-run, image-run, unit-onward, image-onward}
+use Rattle.demands.proofs.Bridge.{goes-went, went-stepped, start-fresh, stepped, sound-at, size-at, settings-at, entry-is, bytes-are}
+use Rattle.demands.proofs.Records.{in-range, blank-is}
+use Rattle.demands.proofs.Effects.{command-ready}
+use Rattle.demands.proofs.InHistory.{part-way, Completed, completed}
+use Rattle.demands.proofs.Calm.{View}
+use Rattle.demands.proofs.Checks.{right-bytes}
+use Rattle.demands.proofs.Locked.{Shut, viewOf, locked-bytes}
+
+-- a byte leaves the count as it was, or completes an ID packet
+abbrev Keeps : Port → ℕ → Outcome → Type 0
+Keeps u b o = (o .unit .registers .mismatches ≡ u .registers .mismatches) ⊎ ((n : ℕ) × (positionOf (u .phase) ≡ within id-check n) × (suc n ≡ need id-check (body n u b)))
+
+module _ (u : Port) (img : List ℕ) (b : ℕ) where
+  abbrev Same : Outcome → Type 0
+  Same o = o .unit .registers .mismatches ≡ u .registers .mismatches
+
+  programs-same : (w : Written) → Same (programs u img w)
+  unfolding programs ended
+  programs-same w = cond-elim Same (standing (u .registers)) _ _ (λ t. refl) (λ t. refl)
+
+  erases-same : (confirm : ℕ) (w : Written) → Same (erases u img confirm w)
+  unfolding erases ended
+  erases-same confirm w =
+      cond-elim Same (eqb confirm 0xFF) _ _ (λ t. refl)
+      (λ t. cond-elim Same (standing (u .registers)) _ _ (λ t. refl) (λ t. cond-elim Same (not (eqb confirm 0xD0)) _ _ (λ t. refl) (λ t. refl)))
+
+  -- the end of a packet that is no ID check
+  ends-same : (k : Kind) (xs : List ℕ) → (k ≡ id-check) ⊎ Same (finished k u img xs)
+  unfolding finished ended
+  ends-same page-read xs = inr refl
+  ends-same page-program xs = inr (programs-same _)
+  ends-same unit-program xs = inr (programs-same _)
+  ends-same block-erase xs = inr (erases-same _ _)
+  ends-same erase-all xs = inr (erases-same _ _)
+  ends-same id-check xs = inl refl
+
+  effect-same : (c : Meaning) → Same (effect c u img b)
+  unfolding effect phased ended
+  effect-same (begin k) = refl
+  effect-same clear = refl
+  effect-same status = refl
+  effect-same version = refl
+  effect-same (rate n) = refl
+  effect-same time = refl
+  effect-same unknown = refl
+
+  keeps-at : (p : Position) → positionOf (u .phase) ≡ p → Keeps u b (stepAt p u img b)
+  unfolding stepAt asleep commanded inPacket completes phased longer
+  keeps-at (sleeping n) e = inl (cond-elim Same (eqb b 0x00) _ _ (λ t. refl) (λ t. cond-elim Same (wakes n b) _ _ (λ s. refl) (λ s. refl)))
+  keeps-at commanding e = inl (cond-elim Same (dropped (meaning b) u) _ _ (λ t. refl) (λ t. effect-same (meaning b)))
+  keeps-at (within k n) e =
+      cond-elim (Keeps u b) (completes k n u b) _ _ (λ t. go (ends-same k (body n u b)) (eqb-true (suc n) (need k (body n u b)) t)) (λ t. inl refl)
+    where
+      go : (k ≡ id-check) ⊎ Same (finished k u img (body n u b)) → suc n ≡ need k (body n u b) → Keeps u b (finished k u img (body n u b))
+      go (inr s) l = inl s
+      go (inl q) l = inr (n, e ∙ ap (λ (k : Kind). within k n) q, l ∙ ap (λ (k : Kind). need k (body n u b)) q)
+
+  keeps : Keeps u b (step u img b)
+  unfolding step
+  keeps = keeps-at (positionOf (u .phase)) refl
+
+-- a run of a locked unit
+module _ {u : Port} (s : Sound u) (k : Locked u) (img : List ℕ) (size : length img ≡ 20480) (bs : List ℕ) (bytes : Bytes bs) where
+  locked-run : Locked (run u img bs .unit) × (run u img bs .image ≡ img)
+  locked-run =
+      let c = locked-bytes {i = ids img} {v = viewOf u} (record { closed = k .closed; three = k .three }) bs in
+      let a = c .leads u img size refl s bytes (record { phase = refl; registers = refl; collected = refl }) .after in
+      let r : Shut (run u img bs .unit .registers) = subst⁻¹ Shut (a .seen .registers) (c .is) in
+      (record { closed = r .closed; three = r .three }, a .image)
+
+-- once three wrong ID checks are counted and the unit is closed, no calls open it, and none change the image: of any unit in range, reached or not, and any calls
+pub locked-calls : {m : ℕ} {u : Port} {img : List ℕ} {cs : List Call} {ls : List Left} {es : List Entry}
+    → InRange u → length (u .collected) ≡ 259 → Bytes (u .collected) → length img ≡ 20480 → Each (λ (c : Call). Bytes (brings c)) cs → Goes m u img cs ls es
+    → Locked u → (k : ℕ) → Locked (unitAfter u es k) × (imageAfter img es k ≡ img)
+locked-calls {u = u} {img = img} {es = es} r room got size bytes g l k =
+    let s : Sound u = sound u (in-range u .0 r) room got in
+    let t : Stepped u img es = went-stepped (goes-went s size bytes g) in
+    let w = locked-run s l img size (take k (taken es)) (bytes-take k (taken es) (taken-bytes t)) in
+    (subst⁻¹ Locked (unit-run t k) (w .0), image-run t k ∙ w .1)
+
+module _ {img : List ℕ} {inputs : Inputs} {cs : List Call} (h : History img inputs cs) where
+  abbrev u₀ : Port
+  u₀ = h .started .unit
+
+  abbrev es : List Entry
+  es = h .trace
+
+  -- and so inside a history, from the byte on that locks the unit, before its first opening or after it
+  pub locked-for-good : (j k : ℕ) → j ≤ k → Locked (unitAfter (h .started .unit) (h .trace) j)
+      → Locked (unitAfter (h .started .unit) (h .trace) k) × (imageAfter img (h .trace) k ≡ imageAfter img (h .trace) j)
+  locked-for-good j k after l =
+      let bs : List ℕ = take (k - j) (drop j (taken es)) in
+      let w = locked-run (sound-at h j) l (imageAfter img es j) (size-at h j) bs (bytes-take (k - j) (drop j (taken es)) (bytes-drop j (taken es) (bytes-are h))) in
+      (subst⁻¹ Locked (unit-onward (stepped h) j (k - j) k (omega arith)) (w .0), image-onward (stepped h) j (k - j) k (omega arith) ∙ w .1)
+
+  -- nothing but the last byte of a complete ID packet changes the count
+  pub count-kept : (k : ℕ) (e : Entry) → At (h .trace) k e → Counting (h .started .unit) (h .trace) k
+  unfolding body commandOf
+  count-kept k e a = go (keeps (unitAfter u₀ es k) (imageAfter img es k) (e .byte))
+    where
+      now : step (unitAfter u₀ es k) (imageAfter img es k) (e .byte) .unit ≡ unitAfter u₀ es (suc k)
+      now = ap (λ (o : Outcome). o .unit) (entry-is h a .leads) ∙ sym (unit-next u₀ a)
+
+      packet : {c : ℕ} {xs : List ℕ} → Row id-check c xs → IdPacket (c ∷ xs)
+      packet (row-F5 {ds = ds} small) = after-F5 {ds = ds} small
+
+      go : Keeps (unitAfter u₀ es k) (e .byte) (step (unitAfter u₀ es k) (imageAfter img es k) (e .byte)) → Counting u₀ es k
+      go (inl q) = kept (ap (λ (u : Port). u .registers .mismatches) (sym now) ∙ q)
+      go (inr (n, f, l)) =
+          let w = completed h a id-check n f l in
+          last (w .from) (w .under) (w .at-command) (subst⁻¹ IdPacket (w .bytes) (packet (w .row)))
+
+  -- what a complete ID packet makes of SRD1 and of the count, before the first opening or after it
+  module _ (n : Blank img → ⊥) (j k : ℕ) (after : j ≤ k) (under : k < length (h .trace)) (at-command : unitAfter (h .started .unit) (h .trace) j .phase ≡ Awake Command) where
+    filled : unitAfter u₀ es j .settings .blank ≡ false
+    filled = ap (λ (t : Settings). t .blank) (settings-at h j) ∙ (ap (λ (u : Port). u .settings .blank) (start-fresh h) ∙ (fresh-blank img inputs ∙ go (isBlank part img) refl))
+      where
+        go : (t : Bool) → isBlank part img ≡ t → isBlank part img ≡ false
+        go true e = absurd (n (blank-is img (h .size) .1 e))
+        go false e = e
+
+    abbrev u : Port
+    u = unitAfter u₀ es j
+
+    abbrev now : List ℕ
+    now = imageAfter img es j
+
+    -- up to its last byte nothing has changed but the phase and the collected bytes
+    inside : IdPacket (bytesTo es j k) → (unitAfter u₀ es k .registers ≡ u .registers) × (imageAfter img es k ≡ now)
+    inside p = go refl p
+      where
+        go : {packet : List ℕ} → bytesTo es j k ≡ packet → IdPacket packet → (unitAfter u₀ es k .registers ≡ u .registers) × (imageAfter img es k ≡ now)
+        go q (after-F5 {ds = ds} small) =
+            let long : length (bytesTo es j k) ≡ suc k - j = length-take-le (suc k - j) (drop j (taken es)) (omega (arith, length-drop j (taken es), taken-long es)) in
+            let i : ℕ = k - j - 1 in
+            let count : j + suc i ≡ k = omega (arith, long, ap length q) in
+            let w = part-way h j k under at-command (row-F5 {ds = ds} small) (inl refl) q i (omega arith) in
+            (ap (λ (x : Port). x .registers) (unit-onward (stepped h) j (suc i) k count) ∙ w .registers, image-onward (stepped h) j (suc i) k count ∙ w .image)
+
+    -- the rows, by whether it is the right packet and how many wrong ones were counted
+    module _ (low mid high : ℕ) (ds : List ℕ) (small : length ds < 256) (q : bytesTo es j k ≡ 0xF5 ∷ low ∷ mid ∷ high ∷ length ds ∷ ds) where
+      abbrev packet : List ℕ
+      packet = 0xF5 ∷ low ∷ mid ∷ high ∷ length ds ∷ ds
+
+      left : {r : Registers} → Ends u r (Kept now) [] (run u now packet) → unitAfter u₀ es (suc k) .registers ≡ r
+      left e =
+          ap (λ (x : Port). x .registers) (unit-onward (stepped h) j (suc k - j) (suc k) (omega arith))
+          ∙ (ap (λ (l : List ℕ). run u now l .unit .registers) q ∙ e .registers)
+
+      left-right : {r : Registers} → Right now packet → Ends u r (Kept now) [] (run u now (rightPacket now)) → unitAfter u₀ es (suc k) .registers ≡ r
+      left-right {r} e w = left (subst (λ (l : List ℕ). Ends u r (Kept now) [] (run u now l)) (right-bytes now ∙ sym e) w)
+
+      judge : Checked now packet (u .registers) (unitAfter u₀ es (suc k) .registers)
+      judge = go (list? packet (packetBytes (right (ids now)))) (decLt (u .registers .mismatches) 3)
+        where
+          ready : Ready u
+          ready = command-ready at-command (sound-at h j)
+
+          go : Dec (Right now packet) → Dec (u .registers .mismatches < 3) → Checked now packet (u .registers) (unitAfter u₀ es (suc k) .registers)
+          go (yes e) (yes few) =
+              let r = left-right e (check-right ready now (size-at h j) filled few) in
+              opens e few (ap (λ (x : Registers). x .srd1) r) (ap (λ (x : Registers). x .mismatches) r)
+          go (yes e) (no many) =
+              let three : u .registers .mismatches ≡ 3 = omega (arith, registers-mismatches (u .registers) (sound-at h j .registers)) in
+              let r = left-right e (check-locked ready now (size-at h j) filled (omega arith)) in
+              stays-shut e three (ap (λ (x : Registers). x .srd1) r) (ap (λ (x : Registers). x .mismatches) r ∙ three)
+          go (no e) d =
+              let r = left (check-wrong ready now low mid high ds small (size-at h j) filled (λ w. e (w ∙ right-bytes now))) in
+              counts e (ap (λ (x : Registers). x .srd1) r) (ap (λ (x : Registers). x .mismatches) r)
+
+    judged : {packet : List ℕ} → bytesTo es j k ≡ packet → IdPacket packet → Checked now packet (u .registers) (unitAfter u₀ es (suc k) .registers)
+    judged q (after-F5 {low} {mid} {high} {ds} small) = judge low mid high ds small q
+
+    pub each-check : IdPacket (bytesTo (h .trace) j k)
+        → Checked (imageAfter img (h .trace) k) (bytesTo (h .trace) j k) (unitAfter (h .started .unit) (h .trace) k .registers) (unitAfter (h .started .unit) (h .trace) (suc k) .registers)
+    each-check p =
+        let w = inside p in
+        subst⁻¹ (λ (l : List ℕ). Checked l (bytesTo es j k) (unitAfter u₀ es k .registers) (unitAfter u₀ es (suc k) .registers)) (w .1)
+        (subst⁻¹ (λ (r : Registers). Checked now (bytesTo es j k) r (unitAfter u₀ es (suc k) .registers)) (w .0) (judged refl p))

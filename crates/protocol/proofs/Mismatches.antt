@@ -1,0 +1,62 @@
+-- What an ID check makes of SRD1 and of the count is a matter of three answers: did the unit start blank, was the packet right, and were there three wrong ones before. Each case computes.
+use Prim.Native.Nat.{ℕ, suc, min, _≤_, _<_}
+use native.Mathlib.Omega.{arith}
+use mathlib.Core.Bool.{Bool, true, false, _&&_, _||_}
+use mathlib.Core.Logic.{inl, inr}
+use mathlib.Core.Path.{_≡_, refl, ap, _∙_}
+use lib.Dec.{ltb}
+use borrow.Author.Tests.{lt-ltb, le-ltb}
+use Rattle.slices.proofs.Lists.{cond-elim}
+use Rattle.unit.specs.declared.Registers.{Registers}
+use Rattle.unit.specs.declared.Settings.{Settings}
+use Rattle.unit.specs.Model.{withSrd1, withMismatches, isOpen}
+use Rattle.unit.specs.Range.{srd1Fits, registersFit, settingsFit}
+use Rattle.unit.proofs.Ranged.{fit-srd1, fit-mismatches, registers-mismatches, BlankRule, settings-protection, settings-blank, settings-together}
+use Rattle.protocol.specs.Endings.{judged, counted, afterCheck}
+use Rattle.protocol.specs.Rows.{afterWrong}
+
+-- the four cases
+module _ (r : Registers) where
+  -- a unit that started blank
+  pub blank-checked : (right : Bool) → afterCheck true r right ≡ withSrd1 r 0x0C
+  unfolding afterCheck judged counted
+  blank-checked right = refl
+
+  -- any other: the packet is not right; it is, and fewer than three wrong ones came before; it is, and three did
+  pub wrong-checked : afterCheck false r false ≡ afterWrong r
+  unfolding afterCheck judged counted
+  wrong-checked = refl
+
+  pub right-checked : r .mismatches < 3 → afterCheck false r true ≡ withSrd1 r 0x0C
+  unfolding afterCheck judged counted
+  right-checked h = rw (lt-ltb (r .mismatches) 3 h)
+
+  pub locked-checked : 3 ≤ r .mismatches → afterCheck false r true ≡ withSrd1 r 0x04
+  unfolding afterCheck judged counted
+  locked-checked h = rw (le-ltb (r .mismatches) 3 h)
+
+judged-fits : (blank : Bool) (wrong : ℕ) (right : Bool) → srd1Fits (judged blank wrong right) ≡ true
+unfolding judged srd1Fits
+judged-fits blank wrong right = cond-elim (λ (s : ℕ). srd1Fits s ≡ true) (blank || (right && ltb wrong 3)) 0x0C 0x04 (λ t. refl) (λ t. refl)
+
+counted-fits : (blank : Bool) (wrong : ℕ) (right : Bool) → wrong ≤ 3 → counted blank wrong right ≤ 3
+unfolding counted
+counted-fits blank wrong right h = cond-elim (λ (n : ℕ). n ≤ 3) (blank || right) wrong (min 3 (suc wrong)) (λ t. h) (λ t. omega arith)
+
+module _ (t : Settings) (r : Registers) (right : Bool) where
+  pub check-fits : registersFit r ≡ true → registersFit (afterCheck (t .blank) r right) ≡ true
+  unfolding afterCheck
+  check-fits e =
+      let n : ℕ = r .mismatches in
+      fit-mismatches (withSrd1 r _) _ (fit-srd1 r _ e (judged-fits (t .blank) n right)) (counted-fits (t .blank) n right (registers-mismatches r e))
+
+  pub check-settings : settingsFit t r ≡ true → settingsFit t (afterCheck (t .blank) r right) ≡ true
+  unfolding isOpen
+  check-settings e = settings-together t _ (settings-protection t r e) (go (t .blank) refl (settings-blank t r e))
+    where
+      go : (b : Bool) → t .blank ≡ b → BlankRule t r → BlankRule t (afterCheck (t .blank) r right)
+      go b q (inl n) = inl n
+      go false q (inr k) = inl q
+      go true q (inr (o, z)) =
+          let c : afterCheck (t .blank) r right ≡ withSrd1 r 0x0C = ap (λ (b : Bool). afterCheck b r right) q ∙ blank-checked r right in
+          inr (ap isOpen c, ap (λ (x : Registers). x .mismatches) c ∙ z)
