@@ -1,7 +1,7 @@
 //! A case as docs/CASES.md lays it out: what both programs read.
 
 pub const IMAGE: usize = 20_480;
-pub const RECORD: usize = 267;
+pub const RECORD: usize = 268;
 
 /// A unit record, given or answered.
 #[derive(Clone)]
@@ -13,6 +13,7 @@ pub struct Record {
     pub blank: u8,
     pub protection: u8,
     pub rate: u8,
+    pub mismatches: u8,
     pub collected: [u8; 259],
 }
 
@@ -20,7 +21,8 @@ impl Record {
     fn lay(&self, out: &mut Vec<u8>) {
         out.push(self.tag);
         out.extend(self.count.to_le_bytes());
-        out.extend([self.srd, self.srd1, self.blank, self.protection, self.rate]);
+        out.extend([self.srd, self.srd1, self.blank]);
+        out.extend([self.protection, self.rate, self.mismatches]);
         out.extend(self.collected);
     }
 }

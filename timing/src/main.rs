@@ -52,6 +52,7 @@ fn ordinary(image: &mut [u8], bytes: &[u8], area: &mut [u8], out: &mut Out) -> u
     out[8..12].copy_from_slice(&(answer.taken as u32).to_le_bytes());
     out[12..16].copy_from_slice(&(answer.reply_len as u32).to_le_bytes());
     out[16] = answer.refusal;
+    out[17] = unit.mismatches;
     answer.taken
 }
 

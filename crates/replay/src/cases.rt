@@ -11,13 +11,13 @@ pub(crate) const TRACE: usize = 2;
 
 pub(crate) const RECORD: usize = 3;
 
-pub(crate) const SIZE: usize = 270;
+pub(crate) const SIZE: usize = 271;
 
-pub(crate) const FILL: usize = 272;
+pub(crate) const FILL: usize = 273;
 
-pub(crate) const PATCHES: usize = 273;
+pub(crate) const PATCHES: usize = 274;
 
-pub(crate) const FIRST_PATCH: usize = 275;
+pub(crate) const FIRST_PATCH: usize = 276;
 
 const MAX_IMAGE: usize = 32768;
 

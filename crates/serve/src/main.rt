@@ -94,6 +94,13 @@ fn answer(reply: &[u8]) -> bool {
     true
 }
 
+// Says that the port stays shut, at the byte that ends the third wrong ID packet: the workshop's end sees only a mismatch.
+fn tell_lock(before: u8, after: u8) {
+    if before < Unit::MAX_MISMATCHES && after == Unit::MAX_MISMATCHES {
+        say(b"serve: three wrong IDs: the port stays shut until serve is started again\n");
+    }
+}
+
 // A byte: what it leads to is stored before it is answered, and answered before the next one.
 fn take_byte(u: Unit, image: &mut [u8], stored: &mut [u8], b: u8) -> Session {
     let mut area = [0u8; 256];
@@ -107,6 +114,7 @@ fn take_byte(u: Unit, image: &mut [u8], stored: &mut [u8], b: u8) -> Session {
             on: false,
         };
     }
+    tell_lock(u.registers.mismatches, next.registers.mismatches);
     if !store(stored, image, turn.changed) {
         return Session {
             unit: next,

@@ -45,7 +45,7 @@ fn count(phase: Phase) -> usize {
     }
 }
 
-// Tag and count, SRD, SRD1, blank, protection, rate, the bytes taken, the reply's length, the refusal.
+// Tag and count, SRD, SRD1, blank, protection, rate, the bytes taken, the reply's length, the refusal, the wrong ID checks.
 fn head(a: Answer) -> [u8; 32] {
     let u = a.unit;
     let phase = u.phase;
@@ -72,6 +72,7 @@ fn head(a: Answer) -> [u8; 32] {
     h[14] = (len / 65536 % 256) as u8;
     h[15] = (len / 16777216 % 256) as u8;
     h[16] = a.refusal;
+    h[17] = registers.mismatches;
     h
 }
 

@@ -5,7 +5,7 @@ use Rattle.replay.proofs.cases.after_patches.Statement.{statement}
 use Rattle.replay.proofs.cases.after_patches.Tie as tie
 
 abbrev Inv-loop : tie.InvT-loop
-Inv-loop case count place₀ i₀ place i = (i ≤ count) × (place ≤ 275 + 258 * i)
+Inv-loop case count place₀ i₀ place i = (i ≤ count) × (place ≤ 276 + 258 * i)
 
 abbrev μ-loop : tie.MeasureT-loop
 μ-loop case count place₀ i₀ place i = count - i

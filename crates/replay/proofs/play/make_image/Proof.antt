@@ -7,7 +7,7 @@ use Rattle.replay.proofs.play.make_image.Statement.{statement}
 use Rattle.replay.proofs.play.make_image.Tie as tie
 
 abbrev Inv-loop : tie.InvT-loop
-Inv-loop case image₀ count place₀ i₀ image place i = (i ≤ count) × (place ≤ 275 + 258 * i) × (length image ≡ length image₀)
+Inv-loop case image₀ count place₀ i₀ image place i = (i ≤ count) × (place ≤ 276 + 258 * i) × (length image ≡ length image₀)
 
 abbrev μ-loop : tie.MeasureT-loop
 μ-loop case image₀ count place₀ i₀ image place i = count - i
