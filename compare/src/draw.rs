@@ -81,16 +81,29 @@ fn record(random: &mut Random) -> Record {
         blank: 0,
         protection: random.below(16) as u8,
         rate: random.below(5) as u8,
+        mismatches: random.of(&[0, 0, 0, 1, 2, 3]),
         collected,
     };
     if random.once_in(4) {
         record.blank = 1;
+        if random.once_in(3) {
+            record.mismatches = 0;
+        }
+    }
+    if random.once_in(4) {
+        // at a command, open after three wrong ID checks: no history leads there
+        record.tag = 0x01;
+        record.count = 0;
+        record.srd1 = 0x0C;
+        record.blank = 0;
+        record.mismatches = 3;
     }
     match random.below(12) {
         0 => record.srd = random.byte(),
         1 => record.srd1 = random.byte(),
         2 => record.protection = 16 + random.below(240) as u8,
         3 => record.rate = 5 + random.below(250) as u8,
+        4 => record.mismatches = 4 + random.below(252) as u8,
         _ => {}
     }
     record
@@ -165,14 +178,18 @@ pub fn case(random: &mut Random) -> Case {
         id,
         bytes: Vec::new(),
     };
-    if matches!(beginning, Beginning::Start { .. }) {
-        match line.random.below(10) {
-            0 => line.wake(),
-            1..=3 => line.surely_wake(),
-            _ => {
-                line.surely_wake();
-                line.right();
-            }
+    match (&beginning, line.random.below(10)) {
+        (Beginning::Given(_), 0..=4) => line.tries(),
+        (Beginning::Given(_), _) => {}
+        (_, 0) => line.wake(),
+        (_, 1 | 2) => line.surely_wake(),
+        (_, 3) => {
+            line.surely_wake();
+            line.tries();
+        }
+        _ => {
+            line.surely_wake();
+            line.right();
         }
     }
     if line.random.once_in(5) {

@@ -75,6 +75,22 @@ impl Line<'_> {
         self.id_packet(address, &id);
     }
 
+    /// Wrong ID packets up to the lock and past it, right ones between them or after them, and what can be seen of each.
+    pub fn tries(&mut self) {
+        let between = self.random.once_in(2);
+        for _ in 0..1 + self.random.below(4) {
+            if between {
+                self.right();
+            }
+            self.wrong();
+            if self.random.once_in(3) {
+                self.bytes.push(0x70);
+            }
+        }
+        self.right();
+        self.bytes.push(0x70);
+    }
+
     fn cut_off(&mut self) {
         let before = self.bytes.len();
         if self.random.once_in(3) {

@@ -22,7 +22,7 @@ const BATCH: usize = 250;
 
 const USAGE: &str = "usage: compare CASES SEED FOLDER PORT.. -- REFERENCE..\n\
     CASES cases are drawn from the number SEED and given to both commands in batches; FOLDER holds the files in between.\n\
-    Before them the twelve sessions of document 01, with document 02's Item 3, are played and held to typed values.";
+    Before them the twelve sessions of document 01, with document 02's Items 3 and 5, are played and held to typed values.";
 
 struct Commands {
     folder: PathBuf,
@@ -163,7 +163,7 @@ fn play_sessions(commands: &Commands) -> Result<bool, String> {
         }
     }
     println!(
-        "sessions: {} rows of document 01's twelve sessions and of document 02's Item 3, by both programs",
+        "sessions: {} rows of document 01's twelve sessions and of document 02's Items 3 and 5, by both programs",
         sessions.len()
     );
     Ok(good)

@@ -1,4 +1,4 @@
-//! Document 01's twelve sessions at the edges, session 11 as document 02's Item 3 has it, and that item's own edge, with what they must answer typed from the documents.
+//! Document 01's twelve sessions at the edges, session 11 as document 02's Item 3 has it, and the edges of Items 3 and 5, with what they must answer typed from the documents.
 
 use crate::answer::Answer;
 use crate::case::{Beginning, Case, Group, Record, IMAGE};
@@ -12,6 +12,8 @@ pub struct Session {
     replies: Vec<(usize, Vec<u8>)>,
     /// SRD and SRD1 at the end.
     registers: (u8, u8),
+    /// The count of wrong ID checks at the end.
+    mismatches: u8,
     /// The bytes of the image that have changed at the end.
     changed: Vec<(usize, u8)>,
 }
@@ -53,29 +55,39 @@ fn session(
         start: None,
         replies: replies.iter().map(|(n, r)| (*n, r.to_vec())).collect(),
         registers,
+        mismatches: 0,
         changed: Vec::new(),
     }
 }
 
-fn awake(srd1: u8, protection: u8) -> Beginning {
-    Beginning::Given(Box::new(Record {
+/// Awake at a command, SRD 80.
+fn record(srd1: u8) -> Record {
+    Record {
         tag: 0x01,
         count: 0,
         srd: 0x80,
         srd1,
         blank: 0,
-        protection,
+        protection: 0,
         rate: 0,
+        mismatches: 0,
         collected: [0; 259],
-    }))
+    }
+}
+
+fn given(record: Record) -> Beginning {
+    Beginning::Given(Box::new(record))
 }
 
 fn closed() -> Beginning {
-    awake(0x00, 0)
+    given(record(0x00))
 }
 
 fn open(protection: u8) -> Beginning {
-    awake(0x0C, protection)
+    given(Record {
+        protection,
+        ..record(0x0C)
+    })
 }
 
 fn started(length: usize, protection: u8, refusal: u8, name: &'static str) -> Session {
@@ -114,17 +126,97 @@ fn unit_zeros(name: &'static str, low: u8, size: u8, srd: u8) -> Session {
     s
 }
 
+/// The right ID packet and a 70; the same with another last byte, another address, six bytes, and none.
+const RIGHT: &[u8] = &[
+    0xF5, 0xDF, 0xFF, 0x00, 0x07, 0x31, 0x32, 0x33, 0x34, 0x35, 0x36, 0x37, 0x70,
+];
+const LAST_38: &[u8] = &[
+    0xF5, 0xDF, 0xFF, 0x00, 0x07, 0x31, 0x32, 0x33, 0x34, 0x35, 0x36, 0x38, 0x70,
+];
+const OTHER_ADDRESS: &[u8] = &[
+    0xF5, 0xDE, 0xFF, 0x00, 0x07, 0x31, 0x32, 0x33, 0x34, 0x35, 0x36, 0x37, 0x70,
+];
+const SIX: &[u8] = &[
+    0xF5, 0xDF, 0xFF, 0x00, 0x06, 0x31, 0x32, 0x33, 0x34, 0x35, 0x36, 0x70,
+];
+const NONE: &[u8] = &[0xF5, 0xDF, 0xFF, 0x00, 0x00, 0x70];
+
+/// ID packets, each with a 70 and the SRD1 that it replies, and the count at the end.
+fn checks(
+    name: &'static str,
+    beginning: Beginning,
+    packets: &[(&[u8], u8)],
+    mismatches: u8,
+) -> Session {
+    let mut bytes = Vec::new();
+    let mut replies = Vec::new();
+    for (packet, srd1) in packets {
+        bytes.extend(*packet);
+        replies.push((bytes.len(), vec![0x80, *srd1]));
+    }
+    let last = packets[packets.len() - 1].1;
+    let mut s = session(name, beginning, &bytes, &[], (0x80, last));
+    s.replies = replies;
+    s.mismatches = mismatches;
+    s
+}
+
+/// Item 5, with the readings D1 to D5.
+fn three_wrong() -> Vec<Session> {
+    let hand_made = given(Record {
+        mismatches: 3,
+        ..record(0x0C)
+    });
+    let blank = given(Record {
+        blank: 1,
+        ..record(0x0C)
+    });
+    vec![
+        checks(
+            "Item 5, right after two wrong",
+            closed(),
+            &[(LAST_38, 0x04), (NONE, 0x04), (RIGHT, 0x0C)],
+            2,
+        ),
+        checks(
+            "Item 5, right after three wrong",
+            closed(),
+            &[
+                (LAST_38, 0x04),
+                (NONE, 0x04),
+                (OTHER_ADDRESS, 0x04),
+                (RIGHT, 0x04),
+                (RIGHT, 0x04),
+            ],
+            3,
+        ),
+        checks("Item 5, wrong while open", open(0), &[(SIX, 0x04)], 1),
+        checks(
+            "Item 5, by turns",
+            closed(),
+            &[
+                (RIGHT, 0x0C),
+                (NONE, 0x04),
+                (RIGHT, 0x0C),
+                (SIX, 0x04),
+                (RIGHT, 0x0C),
+                (LAST_38, 0x04),
+                (RIGHT, 0x04),
+            ],
+            3,
+        ),
+        checks("Item 5, right on count 3", hand_made, &[(RIGHT, 0x04)], 3),
+        checks(
+            "Item 5, blank",
+            blank,
+            &[(NONE, 0x0C), (NONE, 0x0C), (NONE, 0x0C), (NONE, 0x0C)],
+            0,
+        ),
+        session("Item 5, cut off", closed(), &NONE[..4], &[], (0x80, 0x00)),
+    ]
+}
+
 pub fn all() -> Vec<Session> {
-    let right = [
-        0xF5, 0xDF, 0xFF, 0x00, 0x07, 0x31, 0x32, 0x33, 0x34, 0x35, 0x36, 0x37, 0x70,
-    ];
-    let mut last_38 = right;
-    last_38[11] = 0x38;
-    let mut other_address = right;
-    other_address[1] = 0xDE;
-    let six = [
-        0xF5, 0xDF, 0xFF, 0x00, 0x06, 0x31, 0x32, 0x33, 0x34, 0x35, 0x36, 0x70,
-    ];
     let zeros = |n: usize| [vec![0; n], vec![0xB0]].concat();
     let asleep = || Beginning::Start { protection: 0 };
     let mut nine = session(
@@ -144,36 +236,12 @@ pub fn all() -> Vec<Session> {
     );
     page_ff00.changed = (20224..20480).map(|k| (k, 0x00)).collect();
     let page_3000 = with_page(&[0x41, 0x30, 0x00], &[0; 256], &[0x70]);
-    vec![
-        session("1", closed(), &right, &[(13, &[0x80, 0x0C])], (0x80, 0x0C)),
-        session(
-            "2",
-            closed(),
-            &last_38,
-            &[(13, &[0x80, 0x04])],
-            (0x80, 0x04),
-        ),
-        session(
-            "3, address",
-            closed(),
-            &other_address,
-            &[(13, &[0x80, 0x04])],
-            (0x80, 0x04),
-        ),
-        session(
-            "3, size 06",
-            closed(),
-            &six,
-            &[(12, &[0x80, 0x04])],
-            (0x80, 0x04),
-        ),
-        session(
-            "4",
-            closed(),
-            &[0xF5, 0xDF, 0xFF, 0x00, 0x00, 0x70],
-            &[(6, &[0x80, 0x04])],
-            (0x80, 0x04),
-        ),
+    let mut sessions = vec![
+        checks("1", closed(), &[(RIGHT, 0x0C)], 0),
+        checks("2", closed(), &[(LAST_38, 0x04)], 1),
+        checks("3, address", closed(), &[(OTHER_ADDRESS, 0x04)], 1),
+        checks("3, size 06", closed(), &[(SIX, 0x04)], 1),
+        checks("4", closed(), &[(NONE, 0x04)], 1),
         session(
             "5",
             closed(),
@@ -243,7 +311,9 @@ pub fn all() -> Vec<Session> {
         started(IMAGE + 1, 0, 1, "12, 20,481 bytes"),
         started(IMAGE, 15, 0, "12, protection 15"),
         started(IMAGE, 16, 2, "12, protection 16"),
-    ]
+    ];
+    sessions.extend(three_wrong());
+    sessions
 }
 
 impl Session {
@@ -281,6 +351,13 @@ impl Session {
             return Some(format!(
                 "SRD, SRD1 {registers:02X?} and not {:02X?}",
                 self.registers
+            ));
+        }
+        let mismatches = answer.record[8];
+        if mismatches != self.mismatches {
+            return Some(format!(
+                "{mismatches} wrong ID checks counted and not {}",
+                self.mismatches
             ));
         }
         let mut wanted = self.case.image.clone();

@@ -79,11 +79,25 @@ const WANTED: &[&str] = &[
     "B5 closed: unknown",
     "75 open: unknown",
     "75 closed: unknown",
-    "F5 open: right",
-    "F5 open: wrong",
     "F5 open: blank",
-    "F5 closed: right",
-    "F5 closed: wrong",
+    "F5 open: right after 0 wrong",
+    "F5 open: right after 1 wrong",
+    "F5 open: right after 2 wrong",
+    "F5 open: wrong after 0 wrong",
+    "F5 open: wrong after 1 wrong",
+    "F5 open: wrong after 2 wrong",
+    "F5 closed: right after 0 wrong",
+    "F5 closed: right after 1 wrong",
+    "F5 closed: right after 2 wrong",
+    "F5 closed: wrong after 0 wrong",
+    "F5 closed: wrong after 1 wrong",
+    "F5 closed: wrong after 2 wrong",
+    "F5 open: the stored ID, locked",
+    "F5 open: another, locked",
+    "F5 closed: the stored ID, locked",
+    "F5 closed: another, locked",
+    "given: more than 3 wrong",
+    "given: blank and wrong",
     "written: place 0",
     "written: place 2047",
     "written: place 2048",
@@ -117,6 +131,13 @@ fn find(address: usize) -> Option<(usize, usize)> {
     }
 }
 
+/// What follows F5 in the right ID packet of an image, as it is at the start: few cases change it.
+fn stored_id(image: &[u8]) -> Vec<u8> {
+    let places = [20447, 20451, 20459, 20463, 20467, 20471, 20475];
+    let id = places.map(|k| image.get(k).copied().unwrap_or(0));
+    [&[0xDF, 0xFF, 0x00, 0x07], &id[..]].concat()
+}
+
 fn length(command: u8, got: &[u8]) -> usize {
     match command {
         0xFF => 2,
@@ -134,7 +155,7 @@ impl Watch {
 
     /// Follows a case by the answers that it got.
     pub fn follow(&mut self, case: &Case, answer: &Answer) {
-        let (mut phase, mut srd, mut srd1, blank, protection) = match &case.beginning {
+        let (mut phase, mut srd, mut srd1, mut wrong, blank, protection) = match &case.beginning {
             Beginning::Start { protection } => {
                 let (refusal, unit) = answer.start.expect("a start has an answer");
                 self.note(format!("start: refusal {refusal}"));
@@ -146,6 +167,7 @@ impl Watch {
                     Phase::Asleep(0),
                     unit[3],
                     unit[4],
+                    unit[8],
                     unit[5] == 1,
                     *protection as usize,
                 )
@@ -156,9 +178,24 @@ impl Watch {
                     0x01 => Phase::Command,
                     tag => Phase::Packet(tag, r.collected[..(r.count as usize).min(259)].to_vec()),
                 };
-                (phase, r.srd, r.srd1, r.blank == 1, r.protection as usize)
+                if r.mismatches > 3 {
+                    self.note("given: more than 3 wrong");
+                }
+                if r.blank == 1 && r.mismatches > 0 {
+                    self.note("given: blank and wrong");
+                }
+                let blank = r.blank == 1;
+                (
+                    phase,
+                    r.srd,
+                    r.srd1,
+                    r.mismatches,
+                    blank,
+                    r.protection as usize,
+                )
             }
         };
+        let stored = stored_id(&case.image);
         self.refusals(case, answer);
         for call in &answer.calls {
             let group = &case.groups[call.group];
@@ -177,10 +214,11 @@ impl Watch {
                     got.push(b);
                     if got.len() < length(command, &got) {
                         Phase::Packet(command, got)
+                    } else if command == 0xF5 && !blank {
+                        wrong = self.check(&got, open, call.srd1, wrong, &stored);
+                        Phase::Command
                     } else {
-                        self.end(
-                            command, &got, open, srd, call.srd, call.srd1, blank, protection,
-                        );
+                        self.end(command, &got, open, srd, call.srd, protection);
                         Phase::Command
                     }
                 }
@@ -239,7 +277,24 @@ impl Watch {
         Phase::Command
     }
 
-    #[allow(clippy::too_many_arguments)]
+    /// A complete ID packet of a unit that did not start blank, after so many wrong ones; how many there are then.
+    fn check(&mut self, got: &[u8], open: bool, srd1: u8, wrong: u8, stored: &[u8]) -> u8 {
+        let state = if open { "open" } else { "closed" };
+        if wrong >= 3 {
+            let which = if got == stored {
+                "the stored ID"
+            } else {
+                "another"
+            };
+            self.note(format!("F5 {state}: {which}, locked"));
+            return wrong;
+        }
+        let right = srd1 == 0x0C;
+        let which = if right { "right" } else { "wrong" };
+        self.note(format!("F5 {state}: {which} after {wrong} wrong"));
+        wrong + !right as u8
+    }
+
     fn end(
         &mut self,
         command: u8,
@@ -247,8 +302,6 @@ impl Watch {
         open: bool,
         before: u8,
         after: u8,
-        srd1: u8,
-        blank: bool,
         protection: usize,
     ) {
         let page = |mid: usize| (got[mid] as usize) << 8 | (got[mid + 1] as usize) << 16;
@@ -284,9 +337,7 @@ impl Watch {
                     _ => "unconfirmed",
                 }
             }
-            _ if blank => "blank",
-            _ if srd1 == 0x0C => "right",
-            _ => "wrong",
+            _ => "blank",
         };
         let state = if open { "open" } else { "closed" };
         self.note(format!("{command:02X} {state}: {outcome}"));
