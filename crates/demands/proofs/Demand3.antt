@@ -87,9 +87,10 @@ record SameLock (u u′ : Port) : Type 0 where
   mismatches : u .registers .mismatches ≡ u′ .registers .mismatches
 
 same-lock : {u u′ : Port} → SameLock u u′ → Locked u ↔ Locked u′
-same-lock s =
-    (λ k. record { closed = λ o. k .closed (s .srd1 ∙ o); three = sym (s .mismatches) ∙ k .three },
-     λ k. record { closed = λ o. k .closed (sym (s .srd1) ∙ o); three = s .mismatches ∙ k .three })
+same-lock s = (
+  λ k. record { closed = λ o. k .closed (s .srd1 ∙ o); three = sym (s .mismatches) ∙ k .three },
+  λ k. record { closed = λ o. k .closed (sym (s .srd1) ∙ o); three = s .mismatches ∙ k .three },
+)
 
 module _ {img img′ : List ℕ} {inputs inputs′ : Inputs} {cs : List Call} (h : History img inputs cs) (h′ : History img′ inputs′ cs)
     (same : ids img ≡ ids img′) (n : Blank img → ⊥) (n′ : Blank img′ → ⊥) where

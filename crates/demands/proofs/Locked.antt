@@ -169,10 +169,10 @@ module _ {i : List ℕ} where
       let o : Outcome = step (sample v) [] b in
       one (viewOf (o .unit)) (o .reply) (leads-shut (sample v) refl k (leads (sample v) [] b)) (k .closed)
       (λ u img size sound seen.
-          let w : Shut (u .registers) = subst⁻¹ Shut (seen .registers) k in
-          after-blind (subst⁻¹ (λ (x : Port). Blind img (step x img b) o) (seen-is seen)
-          (blind-step (u .settings) _ (shut-filled sound w) refl img [] (v .phase) (v .registers) (v .collected) k b
-          (λ q m e. shut-inside sound w q m (ap positionOf (seen .phase) ∙ e)))))
+      let w : Shut (u .registers) = subst⁻¹ Shut (seen .registers) k in
+      after-blind (subst⁻¹ (λ (x : Port). Blind img (step x img b) o) (seen-is seen)
+      (blind-step (u .settings) _ (shut-filled sound w) refl img [] (v .phase) (v .registers) (v .collected) k b
+      (λ q m e. shut-inside sound w q m (ap positionOf (seen .phase) ∙ e)))))
     where
       seen-is : {u : Port} → Seen v u → u ≡ whole (state (v .phase) (v .registers)) (u .settings) (v .collected)
       seen-is s = rw (sym (s .phase), sym (s .registers), sym (s .collected))

@@ -5,7 +5,7 @@ use mathlib.Core.Bool.{Bool, true, false, _&&_, _||_}
 use mathlib.Core.Logic.{inl, inr}
 use mathlib.Core.Path.{_≡_, refl, ap, _∙_}
 use lib.Dec.{ltb}
-use borrow.Author.Tests.{lt-ltb, le-ltb}
+use borrow.Author.Tests.{ltb-true, ltb-false}
 use Rattle.slices.proofs.Lists.{cond-elim}
 use Rattle.unit.specs.declared.Registers.{Registers}
 use Rattle.unit.specs.declared.Settings.{Settings}
@@ -14,6 +14,11 @@ use Rattle.unit.specs.Range.{srd1Fits, registersFit, settingsFit}
 use Rattle.unit.proofs.Ranged.{fit-srd1, fit-mismatches, registers-mismatches, BlankRule, settings-protection, settings-blank, settings-together}
 use Rattle.protocol.specs.Endings.{judged, counted, afterCheck}
 use Rattle.protocol.specs.Rows.{afterWrong}
+
+-- SRD1 after a right packet: three wrong ones before it decide
+judged-right : (P : ℕ → Type 0) (wrong : ℕ) → (wrong < 3 → P 0x0C) → (3 ≤ wrong → P 0x04) → P (judged false wrong true)
+unfolding judged
+judged-right P wrong few many = cond-elim P (ltb wrong 3) 0x0C 0x04 (λ t. few (ltb-true wrong 3 t)) (λ t. many (ltb-false wrong 3 t))
 
 -- the four cases
 module _ (r : Registers) where
@@ -28,12 +33,12 @@ module _ (r : Registers) where
   wrong-checked = refl
 
   pub right-checked : r .mismatches < 3 → afterCheck false r true ≡ withSrd1 r 0x0C
-  unfolding afterCheck judged counted
-  right-checked h = rw (lt-ltb (r .mismatches) 3 h)
+  unfolding afterCheck counted
+  right-checked h = judged-right (λ (s : ℕ). withSrd1 r s ≡ withSrd1 r 0x0C) (r .mismatches) (λ few. refl) (λ many. absurd (omega arith))
 
   pub locked-checked : 3 ≤ r .mismatches → afterCheck false r true ≡ withSrd1 r 0x04
-  unfolding afterCheck judged counted
-  locked-checked h = rw (le-ltb (r .mismatches) 3 h)
+  unfolding afterCheck counted
+  locked-checked h = judged-right (λ (s : ℕ). withSrd1 r s ≡ withSrd1 r 0x04) (r .mismatches) (λ few. absurd (omega arith)) (λ many. refl)
 
 judged-fits : (blank : Bool) (wrong : ℕ) (right : Bool) → srd1Fits (judged blank wrong right) ≡ true
 unfolding judged srd1Fits

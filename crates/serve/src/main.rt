@@ -97,7 +97,7 @@ fn answer(reply: &[u8]) -> bool {
 // Says that the port stays shut, at the byte that ends the third wrong ID packet: the workshop's end sees only a mismatch.
 fn tell_lock(before: u8, after: u8) {
     if before < Unit::MAX_MISMATCHES && after == Unit::MAX_MISMATCHES {
-        say(b"serve: three wrong IDs: the port stays shut until serve is started again\n");
+        say(b"serve: note: three wrong IDs, the port stays shut until serve is started again\n");
     }
 }
 
