@@ -103,7 +103,7 @@ fn record(random: &mut Random) -> Record {
         1 => record.srd1 = random.byte(),
         2 => record.protection = 16 + random.below(240) as u8,
         3 => record.rate = 5 + random.below(250) as u8,
-        4 => record.mismatches = 4 + random.below(252) as u8,
+        4 => record.mismatches = random.of(&[4, 4, 5, 255]),
         _ => {}
     }
     record

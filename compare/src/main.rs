@@ -107,8 +107,8 @@ fn tell_difference(seed: u64, number: usize, case: &Case, port: &[u8], reference
     }
     println!(
         "  the unit or the image at the end: port {:02X?}, reference {:02X?}",
-        &p.record[..8],
-        &r.record[..8]
+        &p.record[..9],
+        &r.record[..9]
     );
     if let Some(k) = (0..p.image.len()).find(|&k| p.image[k] != r.image[k]) {
         println!(

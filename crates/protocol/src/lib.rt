@@ -1,4 +1,4 @@
-// The answers of the three calls. What they mean stands in specs/: document 01, with document 02's Item 3, as definitions.
+// The answers of the three calls. What they mean stands in specs/: document 01, with document 02's Items 3 and 5, as definitions.
 use unit::Unit;
 
 // A start: the refusal's number, or 0, and the unit.
