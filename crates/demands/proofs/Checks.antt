@@ -3,8 +3,8 @@
 use Prim.Native.Nat.{ℕ, zero, suc, min, _+_, _-_, _≤_, _<_}
 use native.Mathlib.Omega.{arith}
 use native.Mathlib.Decide.{ℕ-discrete}
-use mathlib.Core.Bool.{true, false, false≢true}
-use mathlib.Core.Logic.{_≢_, inl, inr}
+use mathlib.Core.Bool.{false}
+use mathlib.Core.Logic.{_≢_, inl}
 use mathlib.Core.Path.{_≡_, refl, ap, ap₂, sym, _∙_, subst}
 use mathlib.Core.List.{List, [], _∷_, _++_}
 use lib.ListN.{length, take, drop, getD, replicate, length-append, length-replicate}
@@ -24,7 +24,7 @@ use Rattle.unit.specs.declared.Place.the-variants.{Command, IdCheck}
 use Rattle.unit.specs.Phases.{need, commandOf}
 use Rattle.unit.specs.Phases.Kind.{id-check}
 use Rattle.unit.specs.Model.{noBytes, withRate, withSrd1, isOpen}
-use Rattle.unit.proofs.Ranged.{Sound, in-range, BlankRule, settings-blank}
+use Rattle.unit.proofs.Ranged.{Sound, in-range, closed-filled}
 use Rattle.protocol.specs.Outcome.{Outcome}
 use Rattle.protocol.specs.Step.{step, run}
 use Rattle.protocol.specs.Rows.{Ready, Dropped, Partway, Ends, Kept, Row, Guarded, rightPacket, afterWrong}
@@ -60,11 +60,7 @@ module _ {c : ℕ} {v : View} {u : Port} (a : At (Awake Command) c v) (sound : S
   closed = ne-eqb (u .registers .srd1) 0x0C (seen-shut (a .closed) seen)
 
   not-blank : u .settings .blank ≡ false
-  not-blank = go (settings-blank (u .settings) (u .registers) (sound .settings))
-    where
-      go : BlankRule (u .settings) (u .registers) → u .settings .blank ≡ false
-      go (inl e) = e
-      go (inr (o, z)) = absurd (false≢true (sym closed ∙ o))
+  not-blank = closed-filled (u .settings) (u .registers) (sound .settings) closed
 
   count : u .registers .mismatches ≡ c
   count = ap (λ (r : Registers). r .mismatches) (seen .registers) ∙ a .counted

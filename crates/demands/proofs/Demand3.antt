@@ -1,5 +1,5 @@
 -- A history's trace is the run of the bytes that were taken, so what is proved of runs holds after every byte of every history, whichever calls brought it.
-use Prim.Native.Nat.{ℕ, zero, suc, min, _≤_, _<_}
+use Prim.Native.Nat.{ℕ, zero, suc, min, _≤_}
 use native.Mathlib.Omega.{arith}
 use mathlib.Core.Logic.{_↔_}
 use mathlib.Core.Path.{_≡_, ap, sym, _∙_, subst₂}

@@ -1,7 +1,7 @@
 -- A packet inside a history: from its command byte on it is partway, as the rows say; and the byte that completes it is the last of what was taken since its command.
 use Prim.Native.Nat.{ℕ, suc, _+_, _-_, _≤_, _<_}
 use native.Mathlib.Omega.{arith}
-use mathlib.Core.Path.{_≡_, refl, ap, sym, _∙_, subst}
+use mathlib.Core.Path.{_≡_, ap, sym, _∙_, subst}
 use mathlib.Core.List.{List, [], _∷_, _++_}
 use lib.ListN.{length, take, drop, length-append, length-drop}
 use lib.Seq.{length-take-le, take-take}
@@ -34,6 +34,10 @@ pub record Completed (u : Port) (es : List Entry) (k : ℕ) (q : Kind) (xs : Lis
   pub bytes : bytesTo es from k ≡ commandOf q ∷ xs
   pub row : Row q (commandOf q) xs
 
+-- as many bytes as there are from the j-th to the k-th
+pub bytes-long : (es : List Entry) (j k : ℕ) → k < length es → length (bytesTo es j k) ≡ suc k - j
+bytes-long es j k under = length-take-le (suc k - j) (drop j (taken es)) (omega (arith, length-drop j (taken es), taken-long es))
+
 module _ {img : List ℕ} {inputs : Inputs} {cs : List Call} (h : History img inputs cs) where
   abbrev u₀ : Port
   u₀ = h .started .unit
@@ -47,12 +51,11 @@ module _ {img : List ℕ} {inputs : Inputs} {cs : List Call} (h : History img in
       → Partway (unitAfter (h .started .unit) (h .trace) j) (imageAfter img (h .trace) j) q xs i
       (run (unitAfter (h .started .unit) (h .trace) j) (imageAfter img (h .trace) j) (take (suc i) (drop j (taken (h .trace)))))
   part-way j k under at-command {q} {c} {xs} row open-or-check e i l =
-      let long : length (bytesTo es j k) ≡ suc k - j = length-take-le (suc k - j) (drop j (taken es)) (omega (arith, length-drop j (taken es), taken-long es)) in
       let n : length (bytesTo es j k) ≡ suc (length xs) = ap length e in
       let front-of : c ∷ take i xs ≡ take (suc i) (drop j (taken es)) =
       ap (take (suc i)) (sym e) ∙ take-take (suc i) (suc k - j) (drop j (taken es)) (omega arith) in
       subst (λ (l : List ℕ). Partway (unitAfter u₀ es j) (imageAfter img es j) q xs i (run (unitAfter u₀ es j) (imageAfter img es j) l)) front-of
-      (front (command-ready at-command (sound-at h j)) (imageAfter img es j) row open-or-check i (omega (arith, long)))
+      (front (command-ready at-command (sound-at h j)) (imageAfter img es j) row open-or-check i (omega (arith, bytes-long es j k under)))
 
   -- a byte that completes a packet
   pub completed : {k : ℕ} {e : Entry} → At (h .trace) k e → (q : Kind) (n : ℕ) → positionOf (unitAfter (h .started .unit) (h .trace) k .phase) ≡ within q n

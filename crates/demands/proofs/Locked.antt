@@ -3,11 +3,12 @@
 use Prim.Native.Nat.{ℕ, suc, min}
 use native.Mathlib.Omega.{arith}
 use mathlib.Core.Bool.{Bool, true, false, cond, false≢true}
-use mathlib.Core.Logic.{_≢_, inl, inr}
+use mathlib.Core.Logic.{_≢_}
 use mathlib.Core.Path.{_≡_, refl, ap, sym, _∙_, subst⁻¹, subst₂}
 use mathlib.Core.List.{List, [], _∷_}
 use lib.Dec.{eqb}
 use borrow.Author.Tests.{ne-eqb}
+use Rattle.packets.proofs.Decisions.{no-number}
 use Rattle.unit.specs.declared.Unit.{Unit as Port}
 use Rattle.unit.specs.declared.Registers.{Registers}
 use Rattle.unit.specs.declared.Settings.{Settings}
@@ -17,7 +18,7 @@ use Rattle.unit.specs.Phases.{Kind, Position, positionOf}
 use Rattle.unit.specs.Phases.Kind.{page-read, page-program, unit-program, block-erase, erase-all, id-check}
 use Rattle.unit.specs.Phases.Position.{sleeping, commanding, within}
 use Rattle.unit.specs.Model.{noBytes, begun, inputs, whole, state, atCommand, withSrd1, withMismatches, phased, longer, ended, isOpen}
-use Rattle.unit.proofs.Ranged.{Sound, BlankRule, settings-blank}
+use Rattle.unit.proofs.Ranged.{Sound, closed-filled}
 use Rattle.unit.proofs.Builders.{phased-registers, ended-registers}
 use Rattle.unit.proofs.Inside.{longer-registers, open-inside}
 use Rattle.protocol.specs.Outcome.{Outcome, says}
@@ -142,24 +143,20 @@ module _ {u : Port} (s : Sound u) (k : Shut (u .registers)) where
   shut-closed = ne-eqb (u .registers .srd1) 0x0C (k .closed)
 
   pub shut-filled : u .settings .blank ≡ false
-  shut-filled = go (settings-blank (u .settings) (u .registers) (s .settings))
-    where
-      go : BlankRule (u .settings) (u .registers) → u .settings .blank ≡ false
-      go (inl e) = e
-      go (inr (o, z)) = absurd (false≢true (sym shut-closed ∙ o))
+  shut-filled = closed-filled (u .settings) (u .registers) (s .settings) shut-closed
 
   shut-inside : (q : Kind) (m : ℕ) → positionOf (u .phase) ≡ within q m → q ≡ id-check
   shut-inside q m e = go q refl
     where
-      other : (q ≡ id-check → ⊥) → q ≡ id-check
-      other f = absurd (false≢true (sym shut-closed ∙ open-inside s e f))
+      not-other : (q ≡ id-check → ⊥) → q ≡ id-check
+      not-other f = absurd (false≢true (sym shut-closed ∙ open-inside s e f))
 
-      go : (w : Kind) → q ≡ w → q ≡ id-check
-      go page-read h = other (λ z. let y : page-read ≡ id-check = sym h ∙ z in let x : _≡_ {A = ℕ} 0 1 = cc in omega arith)
-      go page-program h = other (λ z. let y : page-program ≡ id-check = sym h ∙ z in let x : _≡_ {A = ℕ} 0 1 = cc in omega arith)
-      go unit-program h = other (λ z. let y : unit-program ≡ id-check = sym h ∙ z in let x : _≡_ {A = ℕ} 0 1 = cc in omega arith)
-      go block-erase h = other (λ z. let y : block-erase ≡ id-check = sym h ∙ z in let x : _≡_ {A = ℕ} 0 1 = cc in omega arith)
-      go erase-all h = other (λ z. let y : erase-all ≡ id-check = sym h ∙ z in let x : _≡_ {A = ℕ} 0 1 = cc in omega arith)
+      go : (k : Kind) → q ≡ k → q ≡ id-check
+      go page-read h = not-other (λ z. no-number (cc))
+      go page-program h = not-other (λ z. no-number (cc))
+      go unit-program h = not-other (λ z. no-number (cc))
+      go block-erase h = not-other (λ z. no-number (cc))
+      go erase-all h = not-other (λ z. no-number (cc))
       go id-check h = h
 
 module _ {i : List ℕ} where

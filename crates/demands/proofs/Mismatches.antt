@@ -3,20 +3,18 @@
 use Prim.Native.Nat.{ℕ, suc, _+_, _-_, _≤_, _<_}
 use native.Mathlib.Omega.{arith}
 use native.Mathlib.Decide.{decLt}
-use mathlib.Core.Bool.{Bool, true, false, not}
+use mathlib.Core.Bool.{false, not}
 use mathlib.Core.Logic.{_⊎_, inl, inr}
 use mathlib.Core.Path.{_≡_, refl, ap, sym, _∙_, subst, subst⁻¹}
 use mathlib.Core.List.{List, [], _∷_}
-use lib.ListN.{length, take, drop, length-drop}
-use lib.Seq.{length-take-le}
+use lib.ListN.{length, take, drop}
 use lib.Dec.{eqb}
 use borrow.Author.Tests.{eqb-true}
 use Rattle.packets.specs.Pieces.{packetBytes, right}
 use Rattle.packets.proofs.Decisions.{list?}
 use Rattle.slices.specs.Lists.{Each, Bytes}
 use Rattle.slices.proofs.Lists.{cond-elim, bytes-take, bytes-drop}
-use Rattle.flash.specs.Blocks.{part}
-use Rattle.flash.specs.Image.{Written, isBlank}
+use Rattle.flash.specs.Image.{Written}
 use Rattle.unit.specs.declared.Unit.{Unit as Port}
 use Rattle.unit.specs.declared.Registers.{Registers}
 use Rattle.unit.specs.declared.Settings.{Settings}
@@ -46,12 +44,11 @@ use Rattle.demands.specs.Mismatches.{IdPacket, Right, Checked, Counting}
 use Rattle.demands.specs.Mismatches.IdPacket.{after-F5}
 use Rattle.demands.specs.Mismatches.Checked.{opens, stays-shut, counts}
 use Rattle.demands.specs.Mismatches.Counting.{kept, last}
-use Rattle.demands.proofs.Traces.{Stepped, taken-bytes, taken-long, unit-next, unit-run, image-run, unit-onward, image-onward}
+use Rattle.demands.proofs.Traces.{Stepped, taken-bytes, unit-next, unit-run, image-run, unit-onward, image-onward}
 use Rattle.demands.proofs.Bridge.{goes-went, went-stepped, start-fresh, stepped, sound-at, size-at, settings-at, entry-is, bytes-are}
-use Rattle.demands.proofs.Records.{in-range, blank-is}
+use Rattle.demands.proofs.Records.{in-range, filled-is}
 use Rattle.demands.proofs.Effects.{command-ready}
-use Rattle.demands.proofs.InHistory.{part-way, Completed, completed}
-use Rattle.demands.proofs.Calm.{View}
+use Rattle.demands.proofs.InHistory.{bytes-long, part-way, completed}
 use Rattle.demands.proofs.Checks.{right-bytes}
 use Rattle.demands.proofs.Locked.{Shut, viewOf, locked-bytes}
 
@@ -162,11 +159,9 @@ module _ {img : List ℕ} {inputs : Inputs} {cs : List Call} (h : History img in
   -- what a complete ID packet makes of SRD1 and of the count, before the first opening or after it
   module _ (n : Blank img → ⊥) (j k : ℕ) (after : j ≤ k) (under : k < length (h .trace)) (at-command : unitAfter (h .started .unit) (h .trace) j .phase ≡ Awake Command) where
     filled : unitAfter u₀ es j .settings .blank ≡ false
-    filled = ap (λ (t : Settings). t .blank) (settings-at h j) ∙ (ap (λ (u : Port). u .settings .blank) (start-fresh h) ∙ (fresh-blank img inputs ∙ go (isBlank part img) refl))
-      where
-        go : (t : Bool) → isBlank part img ≡ t → isBlank part img ≡ false
-        go true e = absurd (n (blank-is img (h .size) .1 e))
-        go false e = e
+    filled =
+        ap (λ (t : Settings). t .blank) (settings-at h j)
+        ∙ (ap (λ (u : Port). u .settings .blank) (start-fresh h) ∙ (fresh-blank img inputs ∙ filled-is img (h .size) n))
 
     abbrev u : Port
     u = unitAfter u₀ es j
@@ -180,9 +175,8 @@ module _ {img : List ℕ} {inputs : Inputs} {cs : List Call} (h : History img in
       where
         go : {packet : List ℕ} → bytesTo es j k ≡ packet → IdPacket packet → (unitAfter u₀ es k .registers ≡ u .registers) × (imageAfter img es k ≡ now)
         go q (after-F5 {ds = ds} small) =
-            let long : length (bytesTo es j k) ≡ suc k - j = length-take-le (suc k - j) (drop j (taken es)) (omega (arith, length-drop j (taken es), taken-long es)) in
             let i : ℕ = k - j - 1 in
-            let count : j + suc i ≡ k = omega (arith, long, ap length q) in
+            let count : j + suc i ≡ k = omega (arith, bytes-long es j k under, ap length q) in
             let w = part-way h j k under at-command (row-F5 {ds = ds} small) (inl refl) q i (omega arith) in
             (ap (λ (x : Port). x .registers) (unit-onward (stepped h) j (suc i) k count) ∙ w .registers, image-onward (stepped h) j (suc i) k count ∙ w .image)
 

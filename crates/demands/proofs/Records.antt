@@ -158,6 +158,13 @@ blank-is img size = (there, back)
         let d = and-both (eqb (getD img 20478 0) 0xFF) true (c .1) in
         (eqb-true _ 0xFF (b .0), eqb-true _ 0xFF (c .0), eqb-true _ 0xFF (d .0))
 
+pub filled-is : (img : List ℕ) → length img ≡ 20480 → (Blank img → ⊥) → isBlank part img ≡ false
+filled-is img size n = go (isBlank part img) refl
+  where
+    go : (t : Bool) → isBlank part img ≡ t → isBlank part img ≡ false
+    go true e = absurd (n (blank-is img size .1 e))
+    go false e = e
+
 -- the seven ID bytes
 pub ids-are : (img : List ℕ) → length img ≡ 20480 → storedId part img ≡ ids img
 unfolding storedId byteAt find holds placeOf

@@ -4,19 +4,17 @@
 use Prim.Native.Nat.{ℕ, min, _+_, _≤_, _<_}
 use native.Mathlib.Omega.{arith}
 use native.Mathlib.Decide.{decLt}
-use mathlib.Core.Bool.{Bool, true, false}
+use mathlib.Core.Bool.{false}
 use mathlib.Core.Logic.{_↔_, _⊎_, inl, inr}
 use mathlib.Core.Path.{_≡_, refl, ap, sym, _∙_, subst}
 use mathlib.Core.List.{List, [], _∷_, _++_, append-nil, append-assoc}
 use lib.ListN.{length, take, length-append}
 use lib.Seq.{take-append-seam}
 use Rattle.packets.specs.Pieces.{Each, joined, Stretch, stretchBytes, Wakes, Dull, Packet, packetBytes, right}
-use Rattle.packets.specs.Readings.{Bytes as PacketBytes, Log, slept, stayed-shut, opened, logBytes, Wrong, Reads, Reading, Opening}
+use Rattle.packets.specs.Readings.{Bytes as PacketBytes, Log, slept, stayed-shut, opened, logBytes, Wrong, Reads, Reading}
 use Rattle.packets.specs.Counts.{checks, wrongChecks}
 use Rattle.packets.proofs.Readings.{reading}
 use Rattle.slices.specs.Lists.{Bytes}
-use Rattle.flash.specs.Blocks.{part}
-use Rattle.flash.specs.Image.{isBlank}
 use Rattle.unit.specs.declared.Inputs.{Inputs}
 use Rattle.unit.specs.declared.Registers.{Registers}
 use Rattle.unit.specs.declared.Phase.the-variants.{Asleep, Awake}
@@ -28,7 +26,7 @@ use Rattle.protocol.specs.Step.{run}
 use Rattle.demands.specs.Record.{Open}
 use Rattle.demands.specs.Flash.{ids, Blank}
 use Rattle.demands.specs.Opening.{OpeningInTime}
-use Rattle.demands.proofs.Records.{blank-is}
+use Rattle.demands.proofs.Records.{filled-is}
 use Rattle.demands.proofs.Calm.{View, Seen, Alike, After, ShutWithin, Passes, Comes, Opened, Closed, Counted, At, seen-shut, bytes-apart, none, weaken, then}
 use Rattle.demands.proofs.Nights.{zeros, dulls, wake}
 use Rattle.demands.proofs.Checks.{packets, right-packet, brokenOff, unfinished}
@@ -110,13 +108,9 @@ told i bs r = log-tells i bs (r .log) (r .reads) (r .whole)
 
 -- a fresh unit of an image that is not blank
 module _ (img : List ℕ) (inputs : Inputs) (size : length img ≡ 20480) (range : inputs .protection ≤ 15) (n : Blank img → ⊥) where
-  not-blank : (t : Bool) → isBlank part img ≡ t → isBlank part img ≡ false
-  not-blank true e = absurd (n (blank-is img size .1 e))
-  not-blank false e = e
-
   fresh-seen : Seen start (fresh img inputs)
   unfolding fresh begun
-  fresh-seen = record { phase = refl; registers = rw (not-blank (isBlank part img) refl); collected = refl }
+  fresh-seen = record { phase = refl; registers = rw (filled-is img size n); collected = refl }
 
   passes : {P : View → Type 0} {bs : List ℕ} → Bytes bs → (c : Comes (ids img) start P bs) → Passes (fresh img inputs) img bs (c .view) (c .said)
   passes bytes c = c .leads (fresh img inputs) img size refl (sound-fresh img inputs range) bytes fresh-seen

@@ -5,7 +5,7 @@ use native.Mathlib.Omega.{arith}
 use mathlib.Core.Bool.{Bool, true, _&&_, decide, decide-iff}
 use mathlib.Core.Path.{_≡_, refl, ap, sym, _∙_, subst, subst⁻¹}
 use mathlib.Core.List.{List, [], _∷_, _++_, map}
-use lib.ListN.{length, take, replicate}
+use lib.ListN.{length, take}
 use lib.Dec.{ltb}
 use borrow.Author.Tests.{ltb-true}
 use Rattle.packets.specs.Pieces.{Packet, check}
@@ -25,7 +25,6 @@ use Rattle.protocol.specs.Endings.{rightId, isRight, judged, counted, afterChec
 use Rattle.protocol.specs.Step.{wakes, asleep, body, completes, inPacket, stepAt, step}
 use Rattle.protocol.specs.Calls.{refusal, byteCall, runCall}
 use Rattle.protocol.specs.Sessions.{image}
-use Rattle.demands.specs.Record.{Locked}
 use Rattle.demands.specs.Flash.{ids}
 use Rattle.demands.specs.Histories.{Entry, History, unitAfter, taken}
 use Rattle.demands.specs.Opening.{FirstOpen, OpeningInTime, FirstLocked}

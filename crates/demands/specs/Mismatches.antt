@@ -9,7 +9,7 @@ use Rattle.unit.specs.declared.Registers.{Registers}
 use Rattle.unit.specs.declared.Phase.the-variants.{Awake}
 use Rattle.unit.specs.declared.Place.the-variants.{Command}
 use Rattle.demands.specs.Flash.{ids}
-use Rattle.demands.specs.Histories.{Entry, unitAfter, imageAfter}
+use Rattle.demands.specs.Histories.{Entry, unitAfter}
 use Rattle.demands.specs.Changes.{bytesTo}
 
 -- a complete ID packet: F5, low, mid, high, size n, n bytes

@@ -9,7 +9,7 @@ use borrow.Author.Tests.{ltb-true, ltb-false}
 use Rattle.slices.proofs.Lists.{cond-elim}
 use Rattle.unit.specs.declared.Registers.{Registers}
 use Rattle.unit.specs.declared.Settings.{Settings}
-use Rattle.unit.specs.Model.{withSrd1, withMismatches, isOpen}
+use Rattle.unit.specs.Model.{withSrd1, isOpen}
 use Rattle.unit.specs.Range.{srd1Fits, registersFit, settingsFit}
 use Rattle.unit.proofs.Ranged.{fit-srd1, fit-mismatches, registers-mismatches, BlankRule, settings-protection, settings-blank, settings-together}
 use Rattle.protocol.specs.Endings.{judged, counted, afterCheck}

@@ -1,6 +1,6 @@
 -- A unit in range, as facts; and its registers and settings, taken apart and put together, so that nothing else opens `registersFit` or `settingsFit`.
 use Prim.Native.Nat.{ℕ, _≤_}
-use mathlib.Core.Bool.{Bool, true, false, not, _&&_, _||_, or-true}
+use mathlib.Core.Bool.{Bool, true, false, not, _||_, or-true, false≢true}
 use mathlib.Core.Logic.{_⊎_, inl, inr}
 use mathlib.Core.Path.{_≡_, refl, ap, sym, _∙_}
 use lib.ListN.{length}
@@ -109,6 +109,14 @@ module _ (t : Settings) (r : Registers) where
       go : (b : Bool) → t .blank ≡ b → (not b || blankFits r) ≡ true → BlankRule t r
       go true q h = inr (blank-apart r h)
       go false q h = inl q
+
+  -- a closed unit did not start blank
+  pub closed-filled : settingsFit t r ≡ true → isOpen r ≡ false → t .blank ≡ false
+  closed-filled e closed = go (settings-blank e)
+    where
+      go : BlankRule t r → t .blank ≡ false
+      go (inl n) = n
+      go (inr (o, z)) = absurd (false≢true (sym closed ∙ o))
 
   pub settings-together : t .protection ≤ 15 → BlankRule t r → settingsFit t r ≡ true
   unfolding settingsFit

@@ -1,5 +1,4 @@
 -- `acts::check_id` meets its contract: whether the unit started blank and whether the packet is right decide the registers after it, and the code asks the two in turn.
-use mathlib.Core.Bool.{true}
 use mathlib.Core.Path.{sym, refl, _∙_}
 use denote.Ref.{now}
 use Rattle.protocol.specs.Endings.{isRight}
