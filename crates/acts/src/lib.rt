@@ -5,11 +5,11 @@ use unit::State;
 use unit::Unit;
 ghost use mathlib.Core.Path.{_≡_};
 ghost use mathlib.Core.Bool.{true, false, cond};
-ghost use Prim.Native.Nat.{suc, min, _+_, _%_};
+ghost use Prim.Native.Nat.{_+_, _%_};
 ghost use lib.Dec.{leb};
 ghost use Rattle.flash.specs.Image.{written};
 ghost use Rattle.unit.specs.Model.{withSrd};
-ghost use Rattle.protocol.specs.Endings.{reaching, isRight, afterCheck};
+ghost use Rattle.protocol.specs.Endings.{reaching, isRight, counted, afterCheck};
 ghost use Rattle.acts.specs.Clauses.{ProgramEnsures, EraseEnsures, EraseAllEnsures, CheckIdEnsures, ShowPageEnsures, carries, unconfirmed};
 
 // SRD ready, or ready and this error.
@@ -129,9 +129,9 @@ fn is_right(image: &[u8], xs: &[u8]) -> bool
     slices::is_same(xs, &right)
 }
 
-// The count of wrong ID checks after one more.
+// The count of wrong ID checks after one more, of a unit that did not start blank.
 fn one_more(wrong: u8) -> u8
-    ensures { λ r. ⌜ r ≡ min 3 (suc wrong) ⌝ }
+    ensures { λ r. ⌜ r ≡ counted false wrong false ⌝ }
 {
     if wrong < Unit::MAX_MISMATCHES {
         return wrong + 1;
@@ -139,7 +139,7 @@ fn one_more(wrong: u8) -> u8
     Unit::MAX_MISMATCHES
 }
 
-// The registers after the right ID packet: it opens the unit, but not after so many wrong ones.
+// The registers after the right ID packet, of a unit that did not start blank: it opens, unless three wrong ones have locked it.
 fn matched(registers: Registers) -> Registers
     ensures { λ r. ⌜ r ≡ afterCheck false registers true ⌝ }
 {
@@ -149,7 +149,7 @@ fn matched(registers: Registers) -> Registers
     registers.with_srd1(Unit::MISMATCH)
 }
 
-// The registers after any other: it closes the unit, and counts.
+// The registers after any other ID packet, of such a unit: it closes, and counts.
 fn mismatched(registers: Registers) -> Registers
     ensures { λ r. ⌜ r ≡ afterCheck false registers false ⌝ }
 {

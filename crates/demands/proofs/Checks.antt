@@ -1,5 +1,5 @@
 -- At a command, while closed: any byte but F5 is dropped or answered and leaves the unit closed; F5 and what follows it is stored up to its last byte,
--- which opens the unit where it completes the right packet and fewer than three wrong ones were counted, and leaves it closed and counts where it completes another.
+-- which opens the unit where it completes the right packet and the unit is not locked, and leaves it closed and counts where it completes another.
 use Prim.Native.Nat.{ℕ, zero, suc, min, _+_, _-_, _≤_, _<_}
 use native.Mathlib.Omega.{arith}
 use native.Mathlib.Decide.{ℕ-discrete}
@@ -33,7 +33,7 @@ use Rattle.protocol.specs.Rows.Guarded.{drops-FF, drops-41, drops-49, drops-20,
 use Rattle.protocol.proofs.RowsFront.{every-packet, front}
 use Rattle.protocol.proofs.RowsShort.{row-70, row-FB, row-B0-to-B4, row-00, closed-drops, unknown-drops}
 use Rattle.protocol.proofs.RowsCheck.{check-right, check-wrong}
-use Rattle.demands.specs.Record.{Open}
+use Rattle.demands.specs.Record.{Open, lockAfter}
 use Rattle.demands.specs.Flash.{ids}
 use Rattle.demands.proofs.Calm.{View, Seen, After, ShutWithin, Passes, Comes, Opened, Counted, At, seen-shut, none, one, then}
 
@@ -153,18 +153,18 @@ filled-row t y h =
     (omega (arith, length-append t (replicate n 0x00), length-replicate {A = ℕ} n 0x00, padded t n 3))
 
 -- the count after a packet that is not the right one
-abbrev after : Packet → ℕ → ℕ
-after (lone b) c = c
-after (check low mid high ds) c = min 3 (suc c)
+abbrev countAfter : Packet → ℕ → ℕ
+countAfter (lone b) c = c
+countAfter (check low mid high ds) c = min lockAfter (suc c)
 
 module _ {i : List ℕ} {c : ℕ} {v : View} (a : At (Awake Command) c v) where
-  pub packet : (p : Packet) → Wrong i p → Comes i v (At (Awake Command) (after p c)) (packetBytes p)
+  pub packet : (p : Packet) → Wrong i p → Comes i v (At (Awake Command) (countAfter p c)) (packetBytes p)
   packet (lone b) w = lone-byte a b (w .0)
   packet (check low mid high ds) w =
       record {
         view = commanding (afterWrong (v .registers));
         said = [];
-        is = record { phase = refl; collected = refl; closed = λ o. omega arith; counted = ap (λ (n : ℕ). min 3 (suc n)) (a .counted) };
+        is = record { phase = refl; collected = refl; closed = λ o. omega arith; counted = ap (λ (n : ℕ). min lockAfter (suc n)) (a .counted) };
         leads = λ u img size same sound bytes seen.
             record {
               before = shut-inside a sound seen img (low ∷ mid ∷ high ∷ length ds ∷ ds) (after-F5 {ds = ds} (w .0));
@@ -177,7 +177,7 @@ module _ {i : List ℕ} {c : ℕ} {v : View} (a : At (Awake Command) c v) where
       same-packet : packetBytes (check low mid high ds) ≡ packetBytes (right i) → check low mid high ds ≡ right i
       same-packet e = cc
 
-  pub right-packet : c < 3 → Comes i v (λ (w : View). Opened w × Counted c w) (packetBytes (right i))
+  pub right-packet : c < lockAfter → Comes i v (λ (w : View). Opened w × Counted c w) (packetBytes (right i))
   right-packet few =
       record {
         view = commanding (withSrd1 (v .registers) 0x0C);
@@ -194,13 +194,13 @@ module _ {i : List ℕ} {c : ℕ} {v : View} (a : At (Awake Command) c v) where
       }
 
 -- packets, and with them the count
-pub packets : {i : List ℕ} {c : ℕ} {v : View} (ps : List Packet) → EachPiece (Wrong i) ps → c ≤ 3 → At (Awake Command) c v
-    → Comes i v (At (Awake Command) (min 3 (c + checks ps))) (joined packetBytes ps)
+pub packets : {i : List ℕ} {c : ℕ} {v : View} (ps : List Packet) → EachPiece (Wrong i) ps → c ≤ lockAfter → At (Awake Command) c v
+    → Comes i v (At (Awake Command) (min lockAfter (c + checks ps))) (joined packetBytes ps)
 packets {c = c} {v = v} [] w h a =
-    let e : c ≡ min 3 (c + 0) = omega arith in none (subst (λ (n : ℕ). At (Awake Command) n v) e a)
+    let e : c ≡ min lockAfter (c + 0) = omega arith in none (subst (λ (n : ℕ). At (Awake Command) n v) e a)
 packets {i} {c} {v} (lone b ∷ ps) w h a = then (packet a (lone b) (w .0)) (λ x k. packets ps (w .1) h k)
 packets {i} {c} {v} (check low mid high ds ∷ ps) w h a =
-    let e : min 3 (min 3 (suc c) + checks ps) ≡ min 3 (c + suc (checks ps)) = omega arith in
+    let e : min lockAfter (min lockAfter (suc c) + checks ps) ≡ min lockAfter (c + suc (checks ps)) = omega arith in
     subst (λ (n : ℕ). Comes i v (At (Awake Command) n) (joined packetBytes (check low mid high ds ∷ ps))) e
     (then (packet a (check low mid high ds) (w .0)) (λ x k. packets ps (w .1) (omega arith) k))
 

@@ -13,7 +13,7 @@ use Rattle.unit.specs.declared.Registers.{Registers}
 use Rattle.unit.specs.declared.Inputs.{Inputs}
 use Rattle.unit.specs.Model.{fresh}
 use Rattle.protocol.specs.Step.{run}
-use Rattle.demands.specs.Record.{Locked}
+use Rattle.demands.specs.Record.{lockAfter, Locked}
 use Rattle.demands.specs.Flash.{ids, Blank}
 use Rattle.demands.specs.Histories.{Call, History, unitAfter, imageAfter, taken}
 use Rattle.demands.specs.Opening.{ShutBefore, FirstOpen, OpeningInTime, FirstLocked, Unseen}
@@ -60,7 +60,7 @@ module _ {img : List ℕ} {inputs : Inputs} {cs : List Call} (h : History img in
 
     -- up to the first opening, that byte included, the count is the number of complete wrong ID packets of the one reading, 3 at most (Item 5)
     pub counts-until : (r : Reading (ids img) (take k (taken (h .trace)))) → ShutBefore (h .started .unit) (h .trace) k
-        → unitAfter (h .started .unit) (h .trace) k .registers .mismatches ≡ min 3 (wrongChecks (r .log))
+        → unitAfter (h .started .unit) (h .trace) k .registers .mismatches ≡ min lockAfter (wrongChecks (r .log))
     counts-until r s =
         ap (λ (u : Port). u .registers .mismatches) (unit-runs k)
         ∙ run-counts img inputs (h .size) (h .protection) n (take k bytes) (bytes-take k bytes (bytes-are h)) r (shut-runs k s)
@@ -86,10 +86,10 @@ record SameLock (u u′ : Port) : Type 0 where
   srd1 : u .registers .srd1 ≡ u′ .registers .srd1
   mismatches : u .registers .mismatches ≡ u′ .registers .mismatches
 
-same-lock : {u u′ : Port} → SameLock u u′ → Locked u ↔ Locked u′
+same-lock : {u u′ : Port} → SameLock u u′ → Locked (u .registers) ↔ Locked (u′ .registers)
 same-lock s = (
-  λ k. record { closed = λ o. k .closed (s .srd1 ∙ o); three = sym (s .mismatches) ∙ k .three },
-  λ k. record { closed = λ o. k .closed (sym (s .srd1) ∙ o); three = s .mismatches ∙ k .three },
+  λ k. record { closed = λ o. k .closed (s .srd1 ∙ o); full = sym (s .mismatches) ∙ k .full },
+  λ k. record { closed = λ o. k .closed (sym (s .srd1) ∙ o); full = s .mismatches ∙ k .full },
 )
 
 module _ {img img′ : List ℕ} {inputs inputs′ : Inputs} {cs : List Call} (h : History img inputs cs) (h′ : History img′ inputs′ cs)
@@ -114,7 +114,7 @@ module _ {img img′ : List ℕ} {inputs inputs′ : Inputs} {cs : List Call} (h
   pub locks-together : (k : ℕ) → k ≤ length (h .trace) → ShutBefore (h .started .unit) (h .trace) k
       → FirstLocked (h .started .unit) (h .trace) k ↔ FirstLocked (h′ .started .unit) (h′ .trace) k
   locks-together k l s =
-      let both : (j : ℕ) → j ≤ k → Locked (unitAfter (h .started .unit) (h .trace) j) ↔ Locked (unitAfter (h′ .started .unit) (h′ .trace) j) =
+      let both : (j : ℕ) → j ≤ k → Locked (unitAfter (h .started .unit) (h .trace) j .registers) ↔ Locked (unitAfter (h′ .started .unit) (h′ .trace) j .registers) =
       λ j q. same-lock (locks-alike j (omega arith) (λ i r. s i (omega arith))) in (
         (λ f. record { locked = both k (omega arith) .0 (f .locked); before = λ j q p. f .before j q (both j (omega arith) .1 p) }),
         (λ f. record { locked = both k (omega arith) .1 (f .locked); before = λ j q p. f .before j q (both j (omega arith) .0 p) }),

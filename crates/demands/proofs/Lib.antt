@@ -19,5 +19,6 @@ pub mod RunOpens
 pub mod Twins
 pub mod Demand3
 pub mod Mismatches
+pub mod Reached
 pub mod Witnesses3
 pub mod Witnesses5

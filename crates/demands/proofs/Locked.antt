@@ -3,7 +3,6 @@
 use Prim.Native.Nat.{ℕ, suc, min}
 use native.Mathlib.Omega.{arith}
 use mathlib.Core.Bool.{Bool, true, false, cond, false≢true}
-use mathlib.Core.Logic.{_≢_}
 use mathlib.Core.Path.{_≡_, refl, ap, sym, _∙_, subst⁻¹, subst₂}
 use mathlib.Core.List.{List, [], _∷_}
 use lib.Dec.{eqb}
@@ -19,52 +18,38 @@ use Rattle.unit.specs.Phases.Kind.{page-read, page-program, unit-program, block
 use Rattle.unit.specs.Phases.Position.{sleeping, commanding, within}
 use Rattle.unit.specs.Model.{noBytes, begun, inputs, whole, state, atCommand, withSrd1, withMismatches, phased, longer, ended, isOpen}
 use Rattle.unit.proofs.Ranged.{Sound, closed-filled}
-use Rattle.unit.proofs.Builders.{phased-registers, ended-registers}
-use Rattle.unit.proofs.Inside.{longer-registers, open-inside}
+use Rattle.unit.proofs.Inside.{open-inside}
 use Rattle.protocol.specs.Outcome.{Outcome, says}
 use Rattle.protocol.specs.Commands.{Command as Meaning, meaning, effect, dropped, commanded}
 use Rattle.protocol.specs.Commands.Command.{begin, clear, status, version, time, unknown, rate}
 use Rattle.protocol.specs.Endings.{isRight, afterCheck, finished}
 use Rattle.protocol.specs.Step.{wakes, asleep, body, completes, inPacket, stepAt, step}
 use Rattle.protocol.proofs.Mismatches.{wrong-checked, locked-checked}
-use Rattle.protocol.proofs.Cases.{Leaves, Leads, leads}
+use Rattle.protocol.proofs.Cases.{Leaves, Leads, leads, registers-lead}
 use Rattle.protocol.proofs.Cases.Leaves.{as-were, srd-set, checks, rate-set}
-use Rattle.protocol.proofs.Cases.Ending.{says-and-ends, writes-and-ends}
-use Rattle.protocol.proofs.Cases.Leads.{nothing, sleeps, wakes-up, begins, goes-on, ends}
+use Rattle.demands.specs.Record.{lockAfter, Locked}
 use Rattle.demands.proofs.Calm.{View, Seen, Alike, After, Comes, none, one, then}
 
--- registers of a locked unit
-pub record Shut (r : Registers) : Type 0 where
-  pub closed : r .srd1 ≢ 0x0C
-  pub three : r .mismatches ≡ 3
-
 -- any ID check gives 04, right or not, and the count stays
-check-same : {r : Registers} → Shut r → (blank right : Bool) → blank ≡ false → afterCheck blank r right ≡ withSrd1 r 0x04
+check-same : {r : Registers} → Locked r → (blank right : Bool) → blank ≡ false → afterCheck blank r right ≡ withSrd1 r 0x04
 check-same {r} k blank right n = ap (λ (b : Bool). afterCheck b r right) n ∙ go right
   where
     go : (right : Bool) → afterCheck false r right ≡ withSrd1 r 0x04
-    go true = locked-checked r (omega (arith, k .three))
+    go true = locked-checked r (omega (arith, k .full))
     go false =
-        let e : min 3 (suc (r .mismatches)) ≡ r .mismatches = omega (arith, k .three) in
+        let e : min lockAfter (suc (r .mismatches)) ≡ r .mismatches = omega (arith, k .full) in
         wrong-checked r ∙ ap (withMismatches (withSrd1 r 0x04)) e
 
 -- a packet leaves a unit that did not start blank locked, and so does a byte
-left-shut : {t : Settings} {r v : Registers} → t .blank ≡ false → Shut r → Leaves t r v → Shut v
-left-shut n k as-were = k
-left-shut n k (srd-set s h) = record { closed = k .closed; three = k .three }
-left-shut n k (rate-set m h) = record { closed = k .closed; three = k .three }
-left-shut {t} n k (checks right) =
-    subst⁻¹ Shut (check-same k (t .blank) right n) (record { closed = λ o. omega arith; three = k .three })
+left-locked : {t : Settings} {r v : Registers} → t .blank ≡ false → Locked r → Leaves t r v → Locked v
+left-locked n k as-were = k
+left-locked n k (srd-set s h) = record { closed = k .closed; full = k .full }
+left-locked n k (rate-set m h) = record { closed = k .closed; full = k .full }
+left-locked {t} n k (checks right) =
+    subst⁻¹ Locked (check-same k (t .blank) right n) (record { closed = λ o. omega arith; full = k .full })
 
-module _ (u : Port) (n : u .settings .blank ≡ false) (k : Shut (u .registers)) where
-  leads-shut : {img : List ℕ} {b : ℕ} {o : Outcome} → Leads u img b o → Shut (o .unit .registers)
-  leads-shut nothing = k
-  leads-shut (sleeps m h) = subst⁻¹ Shut (phased-registers u _) k
-  leads-shut wakes-up = subst⁻¹ Shut (phased-registers u _) k
-  leads-shut (begins q h) = subst⁻¹ Shut (phased-registers u _) k
-  leads-shut (goes-on q m h l) = subst⁻¹ Shut (longer-registers u q m _) k
-  leads-shut (ends (says-and-ends r said l h)) = subst⁻¹ Shut (ended-registers u r) (left-shut n k l)
-  leads-shut (ends (writes-and-ends s new h d)) = subst⁻¹ Shut (ended-registers u _) (record { closed = k .closed; three = k .three })
+leads-locked : {u : Port} {img : List ℕ} {b : ℕ} {o : Outcome} → u .settings .blank ≡ false → Locked (u .registers) → Leads u img b o → Locked (o .unit .registers)
+leads-locked n k l = registers-lead Locked k (λ r m. left-locked n k m) l
 
 -- an outcome shows what another shows, and leaves the image
 record Blind (img : List ℕ) (o o′ : Outcome) : Type 0 where
@@ -81,7 +66,7 @@ module _ (t t′ : Settings) (n : t .blank ≡ false) (n′ : t′ .blank ≡ fa
   unsettled : (s : State) (got said : List ℕ) → Blind img (says (whole s t got) img said) (says (whole s t′ got) img′ said)
   unsettled s got said = record { alike = record { reply = refl; phase = refl; registers = refl; collected = refl }; image = refl }
 
-  module _ (f : Phase) (r : Registers) (got : List ℕ) (k : Shut r) (b : ℕ) where
+  module _ (f : Phase) (r : Registers) (got : List ℕ) (k : Locked r) (b : ℕ) where
     abbrev u : Port
     u = whole (state f r) t got
 
@@ -120,7 +105,7 @@ module _ (t t′ : Settings) (n : t .blank ≡ false) (n′ : t′ .blank ≡ fa
 
 -- a view of a locked unit, and a unit with that view
 abbrev pub LockedView : View → Type 0
-LockedView v = Shut (v .registers)
+LockedView v = Locked (v .registers)
 
 abbrev sample : View → Port
 sample v = whole (state (v .phase) (v .registers)) (begun false (inputs 0) .settings) (v .collected)
@@ -137,19 +122,19 @@ after-blind b =
     }
 
 -- a locked unit in range did not start blank, and is inside no packet but an ID check
-module _ {u : Port} (s : Sound u) (k : Shut (u .registers)) where
-  shut-closed : isOpen (u .registers) ≡ false
+module _ {u : Port} (s : Sound u) (k : Locked (u .registers)) where
+  locked-closed : isOpen (u .registers) ≡ false
   unfolding isOpen
-  shut-closed = ne-eqb (u .registers .srd1) 0x0C (k .closed)
+  locked-closed = ne-eqb (u .registers .srd1) 0x0C (k .closed)
 
-  pub shut-filled : u .settings .blank ≡ false
-  shut-filled = closed-filled (u .settings) (u .registers) (s .settings) shut-closed
+  pub locked-filled : u .settings .blank ≡ false
+  locked-filled = closed-filled (u .settings) (u .registers) (s .settings) locked-closed
 
-  shut-inside : (q : Kind) (m : ℕ) → positionOf (u .phase) ≡ within q m → q ≡ id-check
-  shut-inside q m e = go q refl
+  locked-inside : (q : Kind) (m : ℕ) → positionOf (u .phase) ≡ within q m → q ≡ id-check
+  locked-inside q m e = go q refl
     where
       not-other : (q ≡ id-check → ⊥) → q ≡ id-check
-      not-other f = absurd (false≢true (sym shut-closed ∙ open-inside s e f))
+      not-other f = absurd (false≢true (sym locked-closed ∙ open-inside s e f))
 
       go : (k : Kind) → q ≡ k → q ≡ id-check
       go page-read h = not-other (λ z. no-number (cc))
@@ -164,12 +149,12 @@ module _ {i : List ℕ} where
   unfolding begun
   locked-byte {v} k b =
       let o : Outcome = step (sample v) [] b in
-      one (viewOf (o .unit)) (o .reply) (leads-shut (sample v) refl k (leads (sample v) [] b)) (k .closed)
+      one (viewOf (o .unit)) (o .reply) (leads-locked refl k (leads (sample v) [] b)) (k .closed)
       (λ u img size sound seen.
-      let w : Shut (u .registers) = subst⁻¹ Shut (seen .registers) k in
+      let w : Locked (u .registers) = subst⁻¹ Locked (seen .registers) k in
       after-blind (subst⁻¹ (λ (x : Port). Blind img (step x img b) o) (seen-is seen)
-      (blind-step (u .settings) _ (shut-filled sound w) refl img [] (v .phase) (v .registers) (v .collected) k b
-      (λ q m e. shut-inside sound w q m (ap positionOf (seen .phase) ∙ e)))))
+      (blind-step (u .settings) _ (locked-filled sound w) refl img [] (v .phase) (v .registers) (v .collected) k b
+      (λ q m e. locked-inside sound w q m (ap positionOf (seen .phase) ∙ e)))))
     where
       seen-is : {u : Port} → Seen v u → u ≡ whole (state (v .phase) (v .registers)) (u .settings) (v .collected)
       seen-is s = rw (sym (s .phase), sym (s .registers), sym (s .collected))

@@ -35,22 +35,22 @@ use Rattle.protocol.specs.Step.{wakes, asleep, body, completes, inPacket, stepA
 use Rattle.protocol.specs.Rows.{Ready, Ends, Kept, Row, rightPacket}
 use Rattle.protocol.specs.Rows.Row.{after-F5 as row-F5}
 use Rattle.protocol.proofs.RowsCheck.{check-right, check-locked, check-wrong}
-use Rattle.demands.specs.Record.{Locked, InRange}
+use Rattle.demands.specs.Record.{lockAfter, Locked, InRange}
 use Rattle.demands.specs.Flash.{ids, Blank}
 use Rattle.demands.specs.Histories.{Call, brings, Entry, Goes, History, unitAfter, imageAfter, taken, At}
 use Rattle.protocol.specs.Calls.{Left}
 use Rattle.demands.specs.Changes.{bytesTo}
 use Rattle.demands.specs.Mismatches.{IdPacket, Right, Checked, Counting}
-use Rattle.demands.specs.Mismatches.IdPacket.{after-F5}
+use Rattle.demands.specs.Mismatches.IdPacket.{whole}
 use Rattle.demands.specs.Mismatches.Checked.{opens, stays-shut, counts}
-use Rattle.demands.specs.Mismatches.Counting.{kept, last}
-use Rattle.demands.proofs.Traces.{Stepped, taken-bytes, unit-next, unit-run, image-run, unit-onward, image-onward}
+use Rattle.demands.specs.Mismatches.Counting.{none, last}
+use Rattle.demands.proofs.Traces.{Stepped, at-under, taken-bytes, unit-next, unit-run, image-run, unit-onward, image-onward}
 use Rattle.demands.proofs.Bridge.{goes-went, went-stepped, start-fresh, stepped, sound-at, size-at, settings-at, entry-is, bytes-are}
 use Rattle.demands.proofs.Records.{in-range, filled-is}
 use Rattle.demands.proofs.Effects.{command-ready}
 use Rattle.demands.proofs.InHistory.{bytes-long, part-way, completed}
 use Rattle.demands.proofs.Checks.{right-bytes}
-use Rattle.demands.proofs.Locked.{Shut, viewOf, locked-bytes}
+use Rattle.demands.proofs.Locked.{viewOf, locked-bytes}
 
 -- a byte leaves the count as it was, or completes an ID packet
 abbrev Keeps : Port → ℕ → Outcome → Type 0
@@ -106,23 +106,22 @@ module _ (u : Port) (img : List ℕ) (b : ℕ) where
   keeps = keeps-at (positionOf (u .phase)) refl
 
 -- a run of a locked unit
-module _ {u : Port} (s : Sound u) (k : Locked u) (img : List ℕ) (size : length img ≡ 20480) (bs : List ℕ) (bytes : Bytes bs) where
-  locked-run : Locked (run u img bs .unit) × (run u img bs .image ≡ img)
+module _ {u : Port} (s : Sound u) (k : Locked (u .registers)) (img : List ℕ) (size : length img ≡ 20480) (bs : List ℕ) (bytes : Bytes bs) where
+  locked-run : Locked (run u img bs .unit .registers) × (run u img bs .image ≡ img)
   locked-run =
-      let c = locked-bytes {i = ids img} {v = viewOf u} (record { closed = k .closed; three = k .three }) bs in
+      let c = locked-bytes {i = ids img} {v = viewOf u} k bs in
       let a = c .leads u img size refl s bytes (record { phase = refl; registers = refl; collected = refl }) .after in
-      let r : Shut (run u img bs .unit .registers) = subst⁻¹ Shut (a .seen .registers) (c .is) in
-      (record { closed = r .closed; three = r .three }, a .image)
+      (subst⁻¹ Locked (a .seen .registers) (c .is), a .image)
 
--- once three wrong ID checks are counted and the unit is closed, no calls open it, and none change the image: of any unit in range, reached or not, and any calls
+-- once as many wrong ID checks are counted as lock a unit and it is closed, no calls open it, and none change the image: of any unit in range, reached or not, and any calls
 pub locked-calls : {m : ℕ} {u : Port} {img : List ℕ} {cs : List Call} {ls : List Left} {es : List Entry}
     → InRange u → length (u .collected) ≡ 259 → Bytes (u .collected) → length img ≡ 20480 → Each (λ (c : Call). Bytes (brings c)) cs → Goes m u img cs ls es
-    → Locked u → (k : ℕ) → Locked (unitAfter u es k) × (imageAfter img es k ≡ img)
+    → Locked (u .registers) → (k : ℕ) → Locked (unitAfter u es k .registers) × (imageAfter img es k ≡ img)
 locked-calls {u = u} {img = img} {es = es} r room got size bytes g l k =
     let s : Sound u = sound u (in-range u .0 r) room got in
     let t : Stepped u img es = went-stepped (goes-went s size bytes g) in
     let w = locked-run s l img size (take k (taken es)) (bytes-take k (taken es) (taken-bytes t)) in
-    (subst⁻¹ Locked (unit-run t k) (w .0), image-run t k ∙ w .1)
+    (subst⁻¹ (λ (x : Port). Locked (x .registers)) (unit-run t k) (w .0), image-run t k ∙ w .1)
 
 module _ {img : List ℕ} {inputs : Inputs} {cs : List Call} (h : History img inputs cs) where
   abbrev u₀ : Port
@@ -132,29 +131,12 @@ module _ {img : List ℕ} {inputs : Inputs} {cs : List Call} (h : History img in
   es = h .trace
 
   -- and so inside a history, from the byte on that locks the unit, before its first opening or after it
-  pub locked-for-good : (j k : ℕ) → j ≤ k → Locked (unitAfter (h .started .unit) (h .trace) j)
-      → Locked (unitAfter (h .started .unit) (h .trace) k) × (imageAfter img (h .trace) k ≡ imageAfter img (h .trace) j)
+  pub locked-for-good : (j k : ℕ) → j ≤ k → Locked (unitAfter (h .started .unit) (h .trace) j .registers)
+      → Locked (unitAfter (h .started .unit) (h .trace) k .registers) × (imageAfter img (h .trace) k ≡ imageAfter img (h .trace) j)
   locked-for-good j k after l =
       let bs : List ℕ = take (k - j) (drop j (taken es)) in
       let w = locked-run (sound-at h j) l (imageAfter img es j) (size-at h j) bs (bytes-take (k - j) (drop j (taken es)) (bytes-drop j (taken es) (bytes-are h))) in
-      (subst⁻¹ Locked (unit-onward (stepped h) j (k - j) k (omega arith)) (w .0), image-onward (stepped h) j (k - j) k (omega arith) ∙ w .1)
-
-  -- nothing but the last byte of a complete ID packet changes the count
-  pub count-kept : (k : ℕ) (e : Entry) → At (h .trace) k e → Counting (h .started .unit) (h .trace) k
-  unfolding body commandOf
-  count-kept k e a = go (keeps (unitAfter u₀ es k) (imageAfter img es k) (e .byte))
-    where
-      now : step (unitAfter u₀ es k) (imageAfter img es k) (e .byte) .unit ≡ unitAfter u₀ es (suc k)
-      now = ap (λ (o : Outcome). o .unit) (entry-is h a .leads) ∙ sym (unit-next u₀ a)
-
-      packet : {c : ℕ} {xs : List ℕ} → Row id-check c xs → IdPacket (c ∷ xs)
-      packet (row-F5 {ds = ds} small) = after-F5 {ds = ds} small
-
-      go : Keeps (unitAfter u₀ es k) (e .byte) (step (unitAfter u₀ es k) (imageAfter img es k) (e .byte)) → Counting u₀ es k
-      go (inl q) = kept (ap (λ (u : Port). u .registers .mismatches) (sym now) ∙ q)
-      go (inr (n, f, l)) =
-          let w = completed h a id-check n f l in
-          last (w .from) (w .under) (w .at-command) (subst⁻¹ IdPacket (w .bytes) (packet (w .row)))
+      (subst⁻¹ (λ (x : Port). Locked (x .registers)) (unit-onward (stepped h) j (k - j) k (omega arith)) (w .0), image-onward (stepped h) j (k - j) k (omega arith) ∙ w .1)
 
   -- what a complete ID packet makes of SRD1 and of the count, before the first opening or after it
   module _ (n : Blank img → ⊥) (j k : ℕ) (after : j ≤ k) (under : k < length (h .trace)) (at-command : unitAfter (h .started .unit) (h .trace) j .phase ≡ Awake Command) where
@@ -174,7 +156,7 @@ module _ {img : List ℕ} {inputs : Inputs} {cs : List Call} (h : History img in
     inside p = go refl p
       where
         go : {packet : List ℕ} → bytesTo es j k ≡ packet → IdPacket packet → (unitAfter u₀ es k .registers ≡ u .registers) × (imageAfter img es k ≡ now)
-        go q (after-F5 {ds = ds} small) =
+        go q (whole {ds = ds} small) =
             let i : ℕ = k - j - 1 in
             let count : j + suc i ≡ k = omega (arith, bytes-long es j k under, ap length q) in
             let w = part-way h j k under at-command (row-F5 {ds = ds} small) (inl refl) q i (omega arith) in
@@ -194,25 +176,25 @@ module _ {img : List ℕ} {inputs : Inputs} {cs : List Call} (h : History img in
       left-right {r} e w = left (subst (λ (l : List ℕ). Ends u r (Kept now) [] (run u now l)) (right-bytes now ∙ sym e) w)
 
       judge : Checked now packet (u .registers) (unitAfter u₀ es (suc k) .registers)
-      judge = go (list? packet (packetBytes (right (ids now)))) (decLt (u .registers .mismatches) 3)
+      judge = go (list? packet (packetBytes (right (ids now)))) (decLt (u .registers .mismatches) lockAfter)
         where
           ready : Ready u
           ready = command-ready at-command (sound-at h j)
 
-          go : Dec (Right now packet) → Dec (u .registers .mismatches < 3) → Checked now packet (u .registers) (unitAfter u₀ es (suc k) .registers)
+          go : Dec (Right now packet) → Dec (u .registers .mismatches < lockAfter) → Checked now packet (u .registers) (unitAfter u₀ es (suc k) .registers)
           go (yes e) (yes few) =
               let r = left-right e (check-right ready now (size-at h j) filled few) in
               opens e few (ap (λ (x : Registers). x .srd1) r) (ap (λ (x : Registers). x .mismatches) r)
           go (yes e) (no many) =
-              let three : u .registers .mismatches ≡ 3 = omega (arith, registers-mismatches (u .registers) (sound-at h j .registers)) in
+              let full : u .registers .mismatches ≡ lockAfter = omega (arith, registers-mismatches (u .registers) (sound-at h j .registers)) in
               let r = left-right e (check-locked ready now (size-at h j) filled (omega arith)) in
-              stays-shut e three (ap (λ (x : Registers). x .srd1) r) (ap (λ (x : Registers). x .mismatches) r ∙ three)
+              stays-shut e full (ap (λ (x : Registers). x .srd1) r) (ap (λ (x : Registers). x .mismatches) r ∙ full)
           go (no e) d =
               let r = left (check-wrong ready now low mid high ds small (size-at h j) filled (λ w. e (w ∙ right-bytes now))) in
               counts e (ap (λ (x : Registers). x .srd1) r) (ap (λ (x : Registers). x .mismatches) r)
 
     judged : {packet : List ℕ} → bytesTo es j k ≡ packet → IdPacket packet → Checked now packet (u .registers) (unitAfter u₀ es (suc k) .registers)
-    judged q (after-F5 {low} {mid} {high} {ds} small) = judge low mid high ds small q
+    judged q (whole {low} {mid} {high} {ds} small) = judge low mid high ds small q
 
     pub each-check : IdPacket (bytesTo (h .trace) j k)
         → Checked (imageAfter img (h .trace) k) (bytesTo (h .trace) j k) (unitAfter (h .started .unit) (h .trace) k .registers) (unitAfter (h .started .unit) (h .trace) (suc k) .registers)
@@ -220,3 +202,21 @@ module _ {img : List ℕ} {inputs : Inputs} {cs : List Call} (h : History img in
         let w = inside p in
         subst⁻¹ (λ (l : List ℕ). Checked l (bytesTo es j k) (unitAfter u₀ es k .registers) (unitAfter u₀ es (suc k) .registers)) (w .1)
         (subst⁻¹ (λ (r : Registers). Checked now (bytesTo es j k) r (unitAfter u₀ es (suc k) .registers)) (w .0) (judged refl p))
+
+  -- "Nothing else changes the count": a byte leaves it as it was, or is the last of a complete ID packet, which has its effect
+  pub count-kept : (Blank img → ⊥) → (k : ℕ) (e : Entry) → At (h .trace) k e → Counting (h .started .unit) img (h .trace) k
+  unfolding body commandOf
+  count-kept n k e a = go (keeps (unitAfter u₀ es k) (imageAfter img es k) (e .byte))
+    where
+      now : step (unitAfter u₀ es k) (imageAfter img es k) (e .byte) .unit ≡ unitAfter u₀ es (suc k)
+      now = ap (λ (o : Outcome). o .unit) (entry-is h a .leads) ∙ sym (unit-next u₀ a)
+
+      packet : {c : ℕ} {xs : List ℕ} → Row id-check c xs → IdPacket (c ∷ xs)
+      packet (row-F5 {ds = ds} small) = whole {ds = ds} small
+
+      go : Keeps (unitAfter u₀ es k) (e .byte) (step (unitAfter u₀ es k) (imageAfter img es k) (e .byte)) → Counting u₀ img es k
+      go (inl q) = none (ap (λ (u : Port). u .registers .mismatches) (sym now) ∙ q)
+      go (inr (m, f, l)) =
+          let w = completed h a id-check m f l in
+          let p : IdPacket (bytesTo es (w .from) k) = subst⁻¹ IdPacket (w .bytes) (packet (w .row)) in
+          last (w .from) (w .under) (w .at-command) p (each-check n (w .from) k (w .under) (at-under a) (w .at-command) p)

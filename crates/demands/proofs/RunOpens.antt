@@ -23,7 +23,7 @@ use Rattle.unit.specs.Model.{noBytes, begun, inputs, fresh}
 use Rattle.unit.proofs.Builders.{sound-fresh}
 use Rattle.protocol.specs.Outcome.{Outcome}
 use Rattle.protocol.specs.Step.{run}
-use Rattle.demands.specs.Record.{Open}
+use Rattle.demands.specs.Record.{Open, lockAfter}
 use Rattle.demands.specs.Flash.{ids, Blank}
 use Rattle.demands.specs.Opening.{OpeningInTime}
 use Rattle.demands.proofs.Records.{filled-is}
@@ -42,9 +42,9 @@ start-at = record { phase = refl; collected = refl; closed = λ o. omega arith; 
 
 -- up to the end of some packets that are not the right one, and on from there
 awake : {i : List ℕ} {P : View → Type 0} (d : List Stretch) (w : Stretch) (ps : List Packet) (rest : List ℕ) → Each Dull d → Wakes w → Each (Wrong i) ps
-    → ((v : View) → At (Awake Command) (min 3 (checks ps)) v → Comes i v P rest) → Comes i start P (joined stretchBytes d ++ (stretchBytes w ++ (joined packetBytes ps ++ rest)))
+    → ((v : View) → At (Awake Command) (min lockAfter (checks ps)) v → Comes i v P rest) → Comes i start P (joined stretchBytes d ++ (stretchBytes w ++ (joined packetBytes ps ++ rest)))
 awake d w ps rest dull wakes wrong next =
-    let e : min 3 (0 + checks ps) ≡ min 3 (checks ps) = omega arith in
+    let e : min lockAfter (0 + checks ps) ≡ min lockAfter (checks ps) = omega arith in
     then (dulls d dull start-at) (λ v a. then (wake w wakes a) (λ v a. then (packets ps wrong (omega arith) a) (λ x k. next x (subst (λ (n : ℕ). At (Awake Command) n x) e k))))
 
 -- it is closed, and so many wrong ID checks were counted; or it is open
@@ -70,7 +70,7 @@ opening-comes {i} o =
     let p = o .opening in
     let ps : List Packet = p .packets in
     let r = p .reads in
-    let e : min 3 (checks ps) ≡ checks ps = omega (arith, o .few) in
+    let e : min lockAfter (checks ps) ≡ checks ps = omega (arith, o .few) in
     subst (Comes i start (Opens (checks ps))) (sym (p .whole))
     (awake (p .dull) (p .wake) ps (packetBytes (right i) ++ []) (r .0) (r .1) (r .2)
     (λ v a. then (right-packet (subst (λ (n : ℕ). At (Awake Command) n v) e a) (o .few)) (λ v q. none q)))
@@ -78,30 +78,30 @@ opening-comes {i} o =
 -- what bytes with a reading that has so many wrong ID packets make of the fresh unit: it stays closed, and that many are counted, up to 3;
 -- or it opens, at the end of a front of them that ends with the first right packet
 pub data Told (i bs : List ℕ) (n : ℕ) : Type 0 where
-  stays : Comes i start (Stays (min 3 n)) bs → Told i bs n
+  stays : Comes i start (Stays (min lockAfter n)) bs → Told i bs n
   opens : (front unread : List ℕ) → bs ≡ front ++ unread → (o : OpeningInTime i front) → checks (o .opening .packets) ≡ n → Told i bs n
 
 -- the same of bytes that do not go on after the opening
 abbrev Ended : List ℕ → List ℕ → ℕ → Type 0
-Ended i bs n = Comes i start (Stays (min 3 n)) bs ⊎ ((o : OpeningInTime i bs) × (checks (o .opening .packets) ≡ n))
+Ended i bs n = Comes i start (Stays (min lockAfter n)) bs ⊎ ((o : OpeningInTime i bs) × (checks (o .opening .packets) ≡ n))
 
 log-tells : (i bs : List ℕ) (l : Log) → Reads i l → bs ≡ logBytes i l → Told i bs (wrongChecks l)
 log-tells i bs (slept d n) r e =
     stays (subst (Comes i start (Stays 0)) (sym e) (then (dulls d r start-at) (λ v a. weaken (λ w b. (b .closed, b .counted)) (zeros 0 n (omega arith) a))))
 log-tells i bs (stayed-shut d w ps t) r e =
-    stays (subst (Comes i start (Stays (min 3 (checks ps)))) (sym e)
-    (awake d w ps t (r .0) (r .1) (r .2) (λ v a. weaken (λ x q. subst (Stays (min 3 (checks ps))) (sym q) (broken-stays t a)) (unfinished t (r .3) a))))
-log-tells i bs (opened d w ps unread) r e = go (decLt (checks ps) 3)
+    stays (subst (Comes i start (Stays (min lockAfter (checks ps)))) (sym e)
+    (awake d w ps t (r .0) (r .1) (r .2) (λ v a. weaken (λ x q. subst (Stays (min lockAfter (checks ps))) (sym q) (broken-stays t a)) (unfinished t (r .3) a))))
+log-tells i bs (opened d w ps unread) r e = go (decLt (checks ps) lockAfter)
   where
-    go : Dec (checks ps < 3) → Told i bs (checks ps)
+    go : Dec (checks ps < lockAfter) → Told i bs (checks ps)
     go (yes few) =
         opens (logBytes i (opened d w ps [])) unread (e ∙ regroup (joined stretchBytes d) (stretchBytes w) (joined packetBytes ps) (packetBytes (right i)) unread)
         (record { opening = record { dull = d; wake = w; packets = ps; reads = r; whole = refl }; few = few }) refl
     go (no many) =
-        let three : min 3 (checks ps) ≡ 3 = omega arith in
-        stays (subst (Comes i start (Stays (min 3 (checks ps)))) (sym e)
+        let full : min lockAfter (checks ps) ≡ lockAfter = omega arith in
+        stays (subst (Comes i start (Stays (min lockAfter (checks ps)))) (sym e)
         (awake d w ps (packetBytes (right i) ++ unread) (r .0) (r .1) (r .2)
-        (λ v a. weaken (λ x k. (k .closed, k .three ∙ sym three)) (locked-bytes (record { closed = a .closed; three = a .counted ∙ three }) (packetBytes (right i) ++ unread)))))
+        (λ v a. weaken (λ x k. (k .closed, k .full ∙ sym full)) (locked-bytes (record { closed = a .closed; full = a .counted ∙ full }) (packetBytes (right i) ++ unread)))))
 
 pub told : (i bs : List ℕ) (r : Reading i bs) → Told i bs (wrongChecks (r .log))
 told i bs r = log-tells i bs (r .log) (r .reads) (r .whole)
@@ -118,8 +118,8 @@ module _ (img : List ℕ) (inputs : Inputs) (size : length img ≡ 20480) (range
   open-at-end : {bs : List ℕ} {n : ℕ} → Bytes bs → Comes (ids img) start (Opens n) bs → Open (run (fresh img inputs) img bs .unit)
   open-at-end bytes c = ap (λ (r : Registers). r .srd1) (passes bytes c .after .seen .registers) ∙ c .is .0
 
-  counted-at-end : {bs : List ℕ} {n : ℕ} {P : View → Type 0} → Bytes bs → Comes (ids img) start (λ (w : View). P w × Counted n w) bs → run (fresh img inputs) img bs .unit .registers .mismatches ≡ n
-  counted-at-end bytes c = ap (λ (r : Registers). r .mismatches) (passes bytes c .after .seen .registers) ∙ c .is .1
+  counted-at-end : {bs : List ℕ} {n : ℕ} → Bytes bs → Comes (ids img) start (Counted n) bs → run (fresh img inputs) img bs .unit .registers .mismatches ≡ n
+  counted-at-end bytes c = ap (λ (r : Registers). r .mismatches) (passes bytes c .after .seen .registers) ∙ c .is
 
   -- bytes of which no shorter front opens the unit leave it closed, or end with the first right packet
   ends : {bs : List ℕ} {n : ℕ} → Bytes bs → ShutWithin (fresh img inputs) img bs → Told (ids img) bs n → Ended (ids img) bs n
@@ -144,16 +144,16 @@ module _ (img : List ℕ) (inputs : Inputs) (size : length img ≡ 20480) (range
         go o (inr e) = e .0
 
     -- up to the opening, that byte included, the bytes lead to one view and one reply, and the count is that of the reading's wrong ID packets, up to 3
-    pub until-open : (r : Reading (ids img) bs) → ShutWithin (fresh img inputs) img bs → Comes (ids img) start (λ (w : View). Unit {0} × Counted (min 3 (wrongChecks (r .log))) w) bs
+    pub until-open : (r : Reading (ids img) bs) → ShutWithin (fresh img inputs) img bs → Comes (ids img) start (Counted (min lockAfter (wrongChecks (r .log)))) bs
     until-open r shut = go (ends bytes shut (told (ids img) bs r))
       where
-        go : {n : ℕ} → Ended (ids img) bs n → Comes (ids img) start (λ (w : View). Unit {0} × Counted (min 3 n) w) bs
-        go (inl c) = weaken (λ w p. (tt, p .1)) c
+        go : {n : ℕ} → Ended (ids img) bs n → Comes (ids img) start (Counted (min lockAfter n)) bs
+        go (inl c) = weaken (λ w p. p .1) c
         go {n} (inr (o, k)) =
-            let e : checks (o .opening .packets) ≡ min 3 n = omega (arith, k, o .few) in
-            weaken (λ w p. (tt, p .1 ∙ e)) (opening-comes o)
+            let e : checks (o .opening .packets) ≡ min lockAfter n = omega (arith, k, o .few) in
+            weaken (λ w p. p .1 ∙ e) (opening-comes o)
 
-    pub run-counts : (r : Reading (ids img) bs) → ShutWithin (fresh img inputs) img bs → run (fresh img inputs) img bs .unit .registers .mismatches ≡ min 3 (wrongChecks (r .log))
+    pub run-counts : (r : Reading (ids img) bs) → ShutWithin (fresh img inputs) img bs → run (fresh img inputs) img bs .unit .registers .mismatches ≡ min lockAfter (wrongChecks (r .log))
     run-counts r shut = counted-at-end bytes (until-open r shut)
 
     -- the image stays

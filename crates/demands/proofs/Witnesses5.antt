@@ -127,8 +127,8 @@ locks : FirstLocked (fresh image (inputs 0)) (entriesOf 0 (fresh image (inputs 0
 unfolding few-before after-three calls image sized holds find placeOf byteAt storedId isBlank begun fresh phased longer ended isOpen commandOf need packetFits positionFits srdFits srd1Fits registersFit blankFits settingsFit inRange commands meaning needsOpen effect dropped commanded rightId isRight judged counted afterCheck finished wakes asleep body completes inPacket stepAt step refusal byteCall runCall
 locks =
     record {
-      locked = record { closed = λ o. omega (arith, o); three = refl };
-      before = λ j h k. omega (arith, k .three, few-at 39 (fresh image (inputs 0)) (entriesOf 0 (fresh image (inputs 0)) image (calls after-three)) (omega arith) refl j (omega arith));
+      locked = record { closed = λ o. omega (arith, o); full = refl };
+      before = λ j h k. omega (arith, k .full, few-at 39 (fresh image (inputs 0)) (entriesOf 0 (fresh image (inputs 0)) image (calls after-three)) (omega arith) refl j (omega arith));
     }
 
 pub three-lock : (h : History image (inputs 0) (calls after-three)) → FirstLocked (h .started .unit) (h .trace) 40

@@ -10,7 +10,7 @@ use Rattle.packets.specs.Counts.{checks}
 use Rattle.unit.specs.declared.Unit.{Unit as Port}
 use Rattle.unit.specs.declared.Inputs.{Inputs}
 use Rattle.protocol.specs.Calls.{Left}
-use Rattle.demands.specs.Record.{Open, Locked}
+use Rattle.demands.specs.Record.{Open, lockAfter, Locked}
 use Rattle.demands.specs.Histories.{Call, Entry, History, unitAfter, At}
 
 -- before the k-th byte the unit has not been open
@@ -22,15 +22,15 @@ pub record FirstOpen (u : Port) (es : List Entry) (k : ℕ) : Type 0 where
   pub opens : Open (unitAfter u es k)
   pub before : ShutBefore u es k
 
--- the bytes end with the first right ID packet, and fewer than three complete wrong ones came before it
+-- the bytes end with the first right ID packet, and fewer complete wrong ones came before it than lock a unit
 pub record OpeningInTime (ids bs : List ℕ) : Type 0 where
   pub opening : Opening ids bs
-  pub few : checks (opening .packets) < 3
+  pub few : checks (opening .packets) < lockAfter
 
 -- the unit is locked after k bytes, and after no fewer
 pub record FirstLocked (u : Port) (es : List Entry) (k : ℕ) : Type 0 where
-  pub locked : Locked (unitAfter u es k)
-  pub before : (j : ℕ) → j < k → Locked (unitAfter u es j) → ⊥
+  pub locked : Locked (unitAfter u es k .registers)
+  pub before : (j : ℕ) → j < k → Locked (unitAfter u es j .registers) → ⊥
 
 -- two entries show the same: the same byte of the same call was taken, and its reply, SRD, SRD1 and the count of wrong ID checks are equal
 pub record SameShown (e f : Entry) : Type 0 where

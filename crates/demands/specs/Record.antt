@@ -1,11 +1,12 @@
--- Document 01, "The unit", written out for the demands: which unit records are in range, the idle unit, an open unit. Nothing here cites the specification but the record's own fields.
+-- Document 01, "The unit", and document 02, Item 5, written out for the demands: which unit records are in range, the idle unit, an open and a locked unit. Nothing here cites the specification but the record's own fields.
 use Prim.Native.Nat.{ℕ, _+_, _≤_, _<_}
 use mathlib.Core.Path.{_≡_}
-use mathlib.Core.Logic.{_⊎_}
+use mathlib.Core.Logic.{_≢_, _⊎_}
 use mathlib.Core.Bool.{true, false}
 use mathlib.Core.List.{List}
 use lib.ListN.{getD, replicate}
 use Rattle.unit.specs.declared.Unit.{Unit as Port}
+use Rattle.unit.specs.declared.Registers.{Registers}
 use Rattle.unit.specs.declared.Phase.{Phase}
 use Rattle.unit.specs.declared.Phase.the-variants.{Asleep, Awake}
 use Rattle.unit.specs.declared.Place.the-variants.{Command, PageRead, PageProgram, UnitProgram, BlockErase, EraseAll, IdCheck}
@@ -14,10 +15,14 @@ use Rattle.unit.specs.declared.Place.the-variants.{Command, PageRead, PageProgr
 abbrev pub Open : Port → Type 0
 Open u = u .registers .srd1 ≡ 0x0C
 
--- the unit is locked where it is closed and three wrong ID checks have been counted (document 02, Item 5)
-pub record Locked (u : Port) : Type 0 where
-  pub closed : Open u → ⊥
-  pub three : u .registers .mismatches ≡ 3
+-- how many wrong ID checks lock a unit, and the most that are counted (document 02, Item 5)
+abbrev pub lockAfter : ℕ
+lockAfter = 3
+
+-- the registers of a locked unit: it is closed, and so many have been counted
+pub record Locked (r : Registers) : Type 0 where
+  pub closed : r .srd1 ≢ 0x0C
+  pub full : r .mismatches ≡ lockAfter
 
 -- fewer bytes have come than a packet has whose size is its fourth byte: its total is 4 plus that byte, once that has come
 abbrev pub FewSized : ℕ → List ℕ → Type 0
@@ -52,7 +57,7 @@ pub record InRange (u : Port) : Type 0 where
   pub srd : Srd (u .registers .srd)
   pub srd1 : Srd1 (u .registers .srd1)
   pub rate : u .registers .rate ≤ 4
-  pub mismatches : u .registers .mismatches ≤ 3
+  pub mismatches : u .registers .mismatches ≤ lockAfter
   pub protection : u .settings .protection ≤ 15
   pub blank : (u .settings .blank ≡ false) ⊎ (Open u × (u .registers .mismatches ≡ 0))
 

@@ -25,6 +25,8 @@ use Rattle.unit.specs.Phases.Position.{sleeping, commanding, within}
 use Rattle.unit.specs.Model.{withSrd, withRate, phased, longer, ended, isOpen, standing}
 use Rattle.unit.specs.Range.{srdFits}
 use Rattle.unit.proofs.Positions.{phase-inside}
+use Rattle.unit.proofs.Builders.{phased-registers, ended-registers}
+use Rattle.unit.proofs.Inside.{longer-registers}
 use Rattle.protocol.specs.Outcome.{Outcome, says, quiet}
 use Rattle.protocol.specs.Commands.{Command as Meaning, commands, lookup, meaning, needsOpen, versionBytes, effect, dropped, commanded}
 use Rattle.protocol.specs.Commands.Command.{begin, clear, status, version, time, unknown, rate}
@@ -215,3 +217,14 @@ module _ (u : Port) (img : List ℕ) (b : ℕ) where
   pub leads : Leads u img b (step u img b)
   unfolding step
   leads = leads-at (positionOf (u .phase)) refl
+
+-- what holds of a unit's registers, and of all that a packet may leave of them, holds after any byte
+pub registers-lead : (P : Registers → Type 0) {u : Port} {img : List ℕ} {b : ℕ} {o : Outcome}
+    → P (u .registers) → ((r : Registers) → Leaves (u .settings) (u .registers) r → P r) → Leads u img b o → P (o .unit .registers)
+registers-lead P k f nothing = k
+registers-lead P {u} k f (sleeps n h) = subst⁻¹ P (phased-registers u _) k
+registers-lead P {u} k f wakes-up = subst⁻¹ P (phased-registers u _) k
+registers-lead P {u} k f (begins q h) = subst⁻¹ P (phased-registers u _) k
+registers-lead P {u} k f (goes-on q n h l) = subst⁻¹ P (longer-registers u q n _) k
+registers-lead P {u} k f (ends (says-and-ends r said l h)) = subst⁻¹ P (ended-registers u r) (f r l)
+registers-lead P {u} k f (ends (writes-and-ends s new h d)) = subst⁻¹ P (ended-registers u _) (f _ (srd-set s h))

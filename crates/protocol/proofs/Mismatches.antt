@@ -1,4 +1,4 @@
--- What an ID check makes of SRD1 and of the count is a matter of three answers: did the unit start blank, was the packet right, and were there three wrong ones before. Each case computes.
+-- What an ID check makes of SRD1 and of the count is a matter of three answers: did the unit start blank, was the packet right, and were there as many wrong ones before as lock a unit. Each case computes.
 use Prim.Native.Nat.{ℕ, suc, min, _≤_, _<_}
 use native.Mathlib.Omega.{arith}
 use mathlib.Core.Bool.{Bool, true, false, _&&_, _||_}
@@ -10,15 +10,15 @@ use Rattle.slices.proofs.Lists.{cond-elim}
 use Rattle.unit.specs.declared.Registers.{Registers}
 use Rattle.unit.specs.declared.Settings.{Settings}
 use Rattle.unit.specs.Model.{withSrd1, isOpen}
-use Rattle.unit.specs.Range.{srd1Fits, registersFit, settingsFit}
+use Rattle.unit.specs.Range.{srd1Fits, maxMismatches, registersFit, settingsFit}
 use Rattle.unit.proofs.Ranged.{fit-srd1, fit-mismatches, registers-mismatches, BlankRule, settings-protection, settings-blank, settings-together}
 use Rattle.protocol.specs.Endings.{judged, counted, afterCheck}
 use Rattle.protocol.specs.Rows.{afterWrong}
 
--- SRD1 after a right packet: three wrong ones before it decide
-judged-right : (P : ℕ → Type 0) (wrong : ℕ) → (wrong < 3 → P 0x0C) → (3 ≤ wrong → P 0x04) → P (judged false wrong true)
+-- SRD1 after a right packet: how many wrong ones came before it decides
+judged-right : (P : ℕ → Type 0) (wrong : ℕ) → (wrong < maxMismatches → P 0x0C) → (maxMismatches ≤ wrong → P 0x04) → P (judged false wrong true)
 unfolding judged
-judged-right P wrong few many = cond-elim P (ltb wrong 3) 0x0C 0x04 (λ t. few (ltb-true wrong 3 t)) (λ t. many (ltb-false wrong 3 t))
+judged-right P wrong few many = cond-elim P (ltb wrong maxMismatches) 0x0C 0x04 (λ t. few (ltb-true wrong maxMismatches t)) (λ t. many (ltb-false wrong maxMismatches t))
 
 -- the four cases
 module _ (r : Registers) where
@@ -27,26 +27,26 @@ module _ (r : Registers) where
   unfolding afterCheck judged counted
   blank-checked right = refl
 
-  -- any other: the packet is not right; it is, and fewer than three wrong ones came before; it is, and three did
+  -- any other: the packet is not right; it is, and the unit is not locked; it is, and the unit is
   pub wrong-checked : afterCheck false r false ≡ afterWrong r
   unfolding afterCheck judged counted
   wrong-checked = refl
 
-  pub right-checked : r .mismatches < 3 → afterCheck false r true ≡ withSrd1 r 0x0C
+  pub right-checked : r .mismatches < maxMismatches → afterCheck false r true ≡ withSrd1 r 0x0C
   unfolding afterCheck counted
   right-checked h = judged-right (λ (s : ℕ). withSrd1 r s ≡ withSrd1 r 0x0C) (r .mismatches) (λ few. refl) (λ many. absurd (omega arith))
 
-  pub locked-checked : 3 ≤ r .mismatches → afterCheck false r true ≡ withSrd1 r 0x04
+  pub locked-checked : maxMismatches ≤ r .mismatches → afterCheck false r true ≡ withSrd1 r 0x04
   unfolding afterCheck counted
   locked-checked h = judged-right (λ (s : ℕ). withSrd1 r s ≡ withSrd1 r 0x04) (r .mismatches) (λ few. absurd (omega arith)) (λ many. refl)
 
 judged-fits : (blank : Bool) (wrong : ℕ) (right : Bool) → srd1Fits (judged blank wrong right) ≡ true
 unfolding judged srd1Fits
-judged-fits blank wrong right = cond-elim (λ (s : ℕ). srd1Fits s ≡ true) (blank || (right && ltb wrong 3)) 0x0C 0x04 (λ t. refl) (λ t. refl)
+judged-fits blank wrong right = cond-elim (λ (s : ℕ). srd1Fits s ≡ true) (blank || (right && ltb wrong maxMismatches)) 0x0C 0x04 (λ t. refl) (λ t. refl)
 
-counted-fits : (blank : Bool) (wrong : ℕ) (right : Bool) → wrong ≤ 3 → counted blank wrong right ≤ 3
+counted-fits : (blank : Bool) (wrong : ℕ) (right : Bool) → wrong ≤ maxMismatches → counted blank wrong right ≤ maxMismatches
 unfolding counted
-counted-fits blank wrong right h = cond-elim (λ (n : ℕ). n ≤ 3) (blank || right) wrong (min 3 (suc wrong)) (λ t. h) (λ t. omega arith)
+counted-fits blank wrong right h = cond-elim (λ (n : ℕ). n ≤ maxMismatches) (blank || right) wrong (min maxMismatches (suc wrong)) (λ t. h) (λ t. omega arith)
 
 module _ (t : Settings) (r : Registers) (right : Bool) where
   pub check-fits : registersFit r ≡ true → registersFit (afterCheck (t .blank) r right) ≡ true

@@ -12,6 +12,7 @@ use Rattle.unit.specs.declared.Registers.{Registers}
 use Rattle.unit.specs.Phases.{Kind}
 use Rattle.unit.specs.Phases.Kind.{page-read, page-program, unit-program, block-erase, erase-all, id-check}
 use Rattle.unit.specs.Model.{withSrd, withSrd1, withMismatches, ended, standing}
+use Rattle.unit.specs.Range.{maxMismatches}
 use Rattle.protocol.specs.Outcome.{Outcome, says, quiet}
 
 -- the packet ends, with this SRD and image
@@ -68,13 +69,13 @@ rightId img = 0xDF ∷ 0xFF ∷ 0x00 ∷ 0x07 ∷ storedId part img
 unfoldable pub isRight : List ℕ → List ℕ → Bool
 isRight img xs = same xs (rightId img)
 
--- SRD1 after an ID check, right or not, after so many wrong ones: a unit that started blank stays 0C; else 0C if right and fewer than three wrong ones came before (document 02, Item 5), 04 if not
+-- SRD1 after an ID check, right or not, after so many wrong ones: a unit that started blank stays 0C; else 0C if right and fewer than `maxMismatches` wrong ones came before (document 02, Item 5), 04 if not
 unfoldable pub judged : Bool → ℕ → Bool → ℕ
-judged blank wrong right = cond (blank || (right && ltb wrong 3)) 0x0C 0x04
+judged blank wrong right = cond (blank || (right && ltb wrong maxMismatches)) 0x0C 0x04
 
--- the count of wrong ID checks after one: it rises by each that is not right, up to 3; a unit that started blank counts none
+-- the count of wrong ID checks after one: it rises by each that is not right, up to `maxMismatches`; a unit that started blank counts none
 unfoldable pub counted : Bool → ℕ → Bool → ℕ
-counted blank wrong right = cond (blank || right) wrong (min 3 (suc wrong))
+counted blank wrong right = cond (blank || right) wrong (min maxMismatches (suc wrong))
 
 -- the registers after an ID check
 unfoldable pub afterCheck : Bool → Registers → Bool → Registers

@@ -14,7 +14,7 @@ use Rattle.unit.specs.declared.Settings.{Settings}
 use Rattle.unit.specs.Phases.{Position, positionOf}
 use Rattle.unit.specs.Phases.Position.{sleeping}
 use Rattle.unit.specs.Model.{withSrd, withSrd1, withRate, withMismatches, isOpen}
-use Rattle.unit.specs.Range.{positionFits, srdFits, srd1Fits, registersFit, blankFits, settingsFit, inRange}
+use Rattle.unit.specs.Range.{positionFits, srdFits, srd1Fits, maxMismatches, registersFit, blankFits, settingsFit, inRange}
 
 -- in range, and what the type of the collected bytes says
 pub record Sound (u : Port) : Type 0 where
@@ -43,7 +43,7 @@ few-zeros {u} {n} s e =
 
 -- registers: each number by itself
 module _ (r : Registers) where
-  registers-apart : registersFit r ≡ true → (srdFits (r .srd) ≡ true) × (srd1Fits (r .srd1) ≡ true) × (leb (r .rate) 4 ≡ true) × (leb (r .mismatches) 3 ≡ true)
+  registers-apart : registersFit r ≡ true → (srdFits (r .srd) ≡ true) × (srd1Fits (r .srd1) ≡ true) × (leb (r .rate) 4 ≡ true) × (leb (r .mismatches) maxMismatches ≡ true)
   unfolding registersFit
   registers-apart e =
       let a = and-both (srdFits (r .srd)) _ e in
@@ -59,12 +59,12 @@ module _ (r : Registers) where
   pub registers-rate : registersFit r ≡ true → r .rate ≤ 4
   registers-rate e = leb-true (r .rate) 4 (registers-apart e .2)
 
-  pub registers-mismatches : registersFit r ≡ true → r .mismatches ≤ 3
-  registers-mismatches e = leb-true (r .mismatches) 3 (registers-apart e .3)
+  pub registers-mismatches : registersFit r ≡ true → r .mismatches ≤ maxMismatches
+  registers-mismatches e = leb-true (r .mismatches) maxMismatches (registers-apart e .3)
 
-  pub registers-together : srdFits (r .srd) ≡ true → srd1Fits (r .srd1) ≡ true → r .rate ≤ 4 → r .mismatches ≤ 3 → registersFit r ≡ true
+  pub registers-together : srdFits (r .srd) ≡ true → srd1Fits (r .srd1) ≡ true → r .rate ≤ 4 → r .mismatches ≤ maxMismatches → registersFit r ≡ true
   unfolding registersFit
-  registers-together a b c d = both-and _ _ a (both-and _ _ b (both-and _ _ (le-leb (r .rate) 4 c) (le-leb (r .mismatches) 3 d)))
+  registers-together a b c d = both-and _ _ a (both-and _ _ b (both-and _ _ (le-leb (r .rate) 4 c) (le-leb (r .mismatches) maxMismatches d)))
 
 -- and with one of them changed
 module _ (r : Registers) (v : ℕ) (e : registersFit r ≡ true) where
@@ -77,7 +77,7 @@ module _ (r : Registers) (v : ℕ) (e : registersFit r ≡ true) where
   pub fit-rate : v ≤ 4 → registersFit (withRate r v) ≡ true
   fit-rate h = registers-together (withRate r v) (registers-srd r e) (registers-srd1 r e) h (registers-mismatches r e)
 
-  pub fit-mismatches : v ≤ 3 → registersFit (withMismatches r v) ≡ true
+  pub fit-mismatches : v ≤ maxMismatches → registersFit (withMismatches r v) ≡ true
   fit-mismatches h = registers-together (withMismatches r v) (registers-srd r e) (registers-srd1 r e) (registers-rate r e) h
 
 -- the registers of a unit that started blank

@@ -31,8 +31,12 @@ srdFits s = eqb s 0x80 || (eqb s 0x90 || (eqb s 0xA0 || eqb s 0xB0))
 unfoldable pub srd1Fits : ℕ → Bool
 srd1Fits s = eqb s 0x00 || (eqb s 0x04 || eqb s 0x0C)
 
+-- so many wrong ID checks lock a unit (document 02, Item 5): no more are counted
+abbrev pub maxMismatches : ℕ
+maxMismatches = 3
+
 unfoldable pub registersFit : Registers → Bool
-registersFit r = srdFits (r .srd) && (srd1Fits (r .srd1) && (leb (r .rate) 4 && leb (r .mismatches) 3))
+registersFit r = srdFits (r .srd) && (srd1Fits (r .srd1) && (leb (r .rate) 4 && leb (r .mismatches) maxMismatches))
 
 -- blank implies SRD1 0C, and that no wrong ID check was counted (document 02, Item 5)
 unfoldable pub blankFits : Registers → Bool

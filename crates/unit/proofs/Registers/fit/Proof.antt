@@ -1,4 +1,4 @@
--- `unit::Registers::fit` meets its contract: each operand of the code's `&&` is the definition's operand, by what the two callees ensure; the right one is reached only where the left one is true.
+-- `unit::Registers::fit` meets its contract: each operand of the code's `&&` is the definition's operand, the first two by what the callees ensure; the right one is reached only where the left one is true.
 use native.Mathlib.Omega.{arith}
 use mathlib.Core.Path.{sym, _∙_}
 use borrow.Author.Tests.{lt-leb, le-leb}
