@@ -161,7 +161,7 @@ fn checks(
     s
 }
 
-/// Item 5, with the readings D1 to D5.
+/// Document 02's Item 5, with the readings D1 to D5 of docs/DECISIONS.md.
 fn three_wrong() -> Vec<Session> {
     let hand_made = given(Record {
         mismatches: 3,

@@ -92,10 +92,10 @@ const WANTED: &[&str] = &[
     "F5 closed: wrong after 0 wrong",
     "F5 closed: wrong after 1 wrong",
     "F5 closed: wrong after 2 wrong",
-    "F5 open: the stored ID, locked",
-    "F5 open: another, locked",
-    "F5 closed: the stored ID, locked",
-    "F5 closed: another, locked",
+    "F5 open: the stored ID after 3 wrong",
+    "F5 open: another after 3 wrong",
+    "F5 closed: the stored ID after 3 wrong",
+    "F5 closed: another after 3 wrong",
     "given: more than 3 wrong",
     "given: blank and wrong",
     "written: place 0",
@@ -286,7 +286,7 @@ impl Watch {
             } else {
                 "another"
             };
-            self.note(format!("F5 {state}: {which}, locked"));
+            self.note(format!("F5 {state}: {which} after {wrong} wrong"));
             return wrong;
         }
         let right = srd1 == 0x0C;

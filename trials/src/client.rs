@@ -2,7 +2,7 @@
 //! streams are compared; the client's exit status alone would say little.
 
 use crate::cases::{play, Case, Played, CASES};
-use crate::expect::{holds, names, same, stamp};
+use crate::expect::{holds, names, same, stamp, Stamp};
 use crate::program::{read, room, write, Program};
 use crate::{Done, Outcome};
 use std::fs::{File, OpenOptions};
@@ -103,6 +103,18 @@ fn session(case: &Case, folder: &Path, program: &Program, wanted: &Played) -> Re
     let mut line = line_up(&folder, program)?;
     let status = client(&folder, case.id)?;
     let joined = line.end(JOINER)?;
+    ended(case, &folder, wanted, &before, status, joined)
+}
+
+/// What a session has left: both streams, the image, no complaint and nothing left over, the file's stamp, how both programs ended.
+fn ended(
+    case: &Case,
+    folder: &Path,
+    wanted: &Played,
+    before: &Stamp,
+    status: ExitStatus,
+    joined: ExitStatus,
+) -> Result<(), String> {
     same(
         "the bytes that the client sent",
         &read(&folder.join("tx.bin"))?,
@@ -117,9 +129,9 @@ fn session(case: &Case, folder: &Path, program: &Program, wanted: &Played) -> Re
     same("serve's complaints", &read(&folder.join("serve.txt"))?, b"")?;
     holds(
         "unit.img.new is left over",
-        !names(&folder)?.iter().any(|n| n == "unit.img.new"),
+        !names(folder)?.iter().any(|n| n == "unit.img.new"),
     )?;
-    let untouched = stamp(&folder.join("unit.img"))? == before;
+    let untouched = &stamp(&folder.join("unit.img"))? == before;
     holds(
         "the image file was touched, or was not",
         untouched == case.is_refused(),
@@ -197,16 +209,9 @@ fn locked_out(folder: &Path, program: &Program) -> Result<(), String> {
     )?;
     let mut again = line_up(&folder, program)?;
     let status = client(&folder, right.id)?;
-    again.end(JOINER)?;
-    holds(
-        &format!("after a restart {CLIENT} ended with {status}"),
-        status.code() == Some(right.status),
-    )?;
-    same(
-        "unit.img after a restart",
-        &read(&folder.join("unit.img"))?,
-        &right.wanted()?.image,
-    )
+    let joined = again.end(JOINER)?;
+    ended(right, &folder, &right.wanted()?, &before, status, joined)
+        .map_err(|e| format!("after a restart: {e}"))
 }
 
 pub fn run(folder: &Path, program: &Program) -> Outcome {

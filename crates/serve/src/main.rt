@@ -1,6 +1,6 @@
 // The live module: `serve [PROTECTION]` reads bytes from standard input as they come, answers on standard output at once, and keeps the image in unit.img.
 //
-// What it decides stands in `live` and `port`, proved; here are the calls of the system. An image that a byte changed is on the disk before the next
+// What it decides stands in `live` and `port`, proved; here are the calls of the system, and a note at the third wrong ID. An image that a byte changed is on the disk before the next
 // byte is given: written to unit.img.new, synced, renamed over unit.img, and the folder synced. So a reply means that all before it is stored.
 use libc::STDERR_FILENO;
 use libc::STDIN_FILENO;
@@ -94,10 +94,13 @@ fn answer(reply: &[u8]) -> bool {
     true
 }
 
-// Says that the port stays shut, at the byte that ends the third wrong ID packet: the workshop's end sees only a mismatch.
+// A note on standard error at the byte that ends the third wrong ID packet: the workshop's end sees only a mismatch. The session goes on.
 fn tell_lock(before: u8, after: u8) {
     if before < Unit::MAX_MISMATCHES && after == Unit::MAX_MISMATCHES {
-        say(b"serve: note: three wrong IDs, the port stays shut until serve is started again\n");
+        io::write_all(
+            STDERR_FILENO,
+            b"serve: note: three wrong IDs, the port stays shut until serve is started again\n",
+        );
     }
 }
 
