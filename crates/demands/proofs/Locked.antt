@@ -90,18 +90,18 @@ module _ (t t′ : Settings) (n : t .blank ≡ false) (n′ : t′ .blank ≡ fa
         subst₂ (λ (x x′ : Registers). Blind img (says (whole (atCommand x) t noBytes) img []) (says (whole (atCommand x′) t′ noBytes) img′ []))
         (sym (check-same k (t .blank) (isRight img xs) n)) (sym (check-same k (t′ .blank) (isRight img′ xs) n′)) (unsettled (atCommand (withSrd1 r 0x04)) noBytes [])
 
-    blind-at : (p : Position) → positionOf f ≡ p → ((q : Kind) (m : ℕ) → p ≡ within q m → q ≡ id-check) → Blind img (stepAt p u img b) (stepAt p u′ img′ b)
+    blind-at : (p : Position) → ((q : Kind) (m : ℕ) → p ≡ within q m → q ≡ id-check) → Blind img (stepAt p u img b) (stepAt p u′ img′ b)
     unfolding stepAt asleep commanded dropped inPacket completes body phased longer
-    blind-at (sleeping m) e only =
+    blind-at (sleeping m) only =
         blind-cond (eqb b 0x00) (unsettled _ got []) (blind-cond (wakes m b) (unsettled _ got _) (unsettled _ got []))
-    blind-at commanding e only = blind-cond (dropped (meaning b) u) (unsettled _ got []) (effects (meaning b))
-    blind-at (within q m) e only =
+    blind-at commanding only = blind-cond (dropped (meaning b) u) (unsettled _ got []) (effects (meaning b))
+    blind-at (within q m) only =
         subst⁻¹ (λ (q : Kind). Blind img (inPacket q m u img b) (inPacket q m u′ img′ b)) (only q m refl)
         (blind-cond (completes id-check m u b) (check-blind (body m u b)) (unsettled _ _ []))
 
     blind-step : ((q : Kind) (m : ℕ) → positionOf f ≡ within q m → q ≡ id-check) → Blind img (step u img b) (step u′ img′ b)
     unfolding step
-    blind-step only = blind-at (positionOf f) refl only
+    blind-step only = blind-at (positionOf f) only
 
 -- a view of a locked unit, and a unit with that view
 abbrev pub LockedView : View → Type 0

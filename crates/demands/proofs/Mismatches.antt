@@ -203,7 +203,7 @@ module _ {img : List ℕ} {inputs : Inputs} {cs : List Call} (h : History img in
         subst⁻¹ (λ (l : List ℕ). Checked l (bytesTo es j k) (unitAfter u₀ es k .registers) (unitAfter u₀ es (suc k) .registers)) (w .1)
         (subst⁻¹ (λ (r : Registers). Checked now (bytesTo es j k) r (unitAfter u₀ es (suc k) .registers)) (w .0) (judged refl p))
 
-  -- "Nothing else changes the count": a byte leaves it as it was, or is the last of a complete ID packet, which has its effect
+  -- nothing else changes the count: a byte leaves it as it was, or is the last of a complete ID packet, which has its effect
   pub count-kept : (Blank img → ⊥) → (k : ℕ) (e : Entry) → At (h .trace) k e → Counting (h .started .unit) img (h .trace) k
   unfolding body commandOf
   count-kept n k e a = go (keeps (unitAfter u₀ es k) (imageAfter img es k) (e .byte))
