@@ -2,6 +2,8 @@
 
 pub const IMAGE: usize = 20_480;
 pub const RECORD: usize = 268;
+/// Where the seven ID bytes stand in the image.
+pub const ID_PLACES: [usize; 7] = [20447, 20451, 20459, 20463, 20467, 20471, 20475];
 
 /// A unit record, given or answered.
 #[derive(Clone)]

@@ -1,11 +1,10 @@
 //! Cases drawn from a seed: an image or a unit record, a line of bytes, and how they are grouped into calls.
 //! Nothing here knows what a port answers.
 
-use crate::case::{Beginning, Case, Group, Record, IMAGE};
+use crate::case::{Beginning, Case, Group, Record, ID_PLACES, IMAGE};
 use crate::line::Line;
 use crate::random::Random;
 
-const ID_PLACES: [usize; 7] = [20447, 20451, 20459, 20463, 20467, 20471, 20475];
 const BLOCK_ENDS: [usize; 8] = [0, 2047, 2048, 4095, 4096, 12287, 12288, 20479];
 
 fn image(random: &mut Random, id: [u8; 7]) -> Vec<u8> {

@@ -1,7 +1,7 @@
 //! Document 01's twelve sessions at the edges, session 11 as document 02's Item 3 has it, and the edges of Items 3 and 5, with what they must answer typed from the documents.
 
 use crate::answer::Answer;
-use crate::case::{Beginning, Case, Group, Record, IMAGE};
+use crate::case::{Beginning, Case, Group, Record, ID_PLACES, IMAGE};
 
 pub struct Session {
     pub name: &'static str,
@@ -22,10 +22,7 @@ pub struct Session {
 fn image() -> Vec<u8> {
     let mut image = vec![0xFF; IMAGE];
     image[0] = 0xF0;
-    for (k, b) in [20447, 20451, 20459, 20463, 20467, 20471, 20475]
-        .into_iter()
-        .zip(0x31..)
-    {
+    for (k, b) in ID_PLACES.into_iter().zip(0x31..) {
         image[k] = b;
     }
     image[20476..20479].copy_from_slice(&[0x00, 0xE0, 0x00]);

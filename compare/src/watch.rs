@@ -1,10 +1,10 @@
 //! Counts what the cases met: each row of document 01's packet table by its outcome, open or closed, each refusal of each call, each edge of a block.
-//! It follows the packets by their lengths and takes the registers from the answers; it knows nothing of images but where blocks lie.
+//! It follows the packets by their lengths and takes the registers from the answers; it knows nothing of images but where blocks lie and the ID stands.
 
 use std::collections::BTreeMap;
 
 use crate::answer::Answer;
-use crate::case::{Beginning, Case};
+use crate::case::{Beginning, Case, ID_PLACES};
 
 /// What a run of the gate's length has to meet at least LEAST times.
 pub const LEAST: usize = 20;
@@ -133,8 +133,7 @@ fn find(address: usize) -> Option<(usize, usize)> {
 
 /// What follows F5 in the right ID packet of an image, as it is at the start: few cases change it.
 fn stored_id(image: &[u8]) -> Vec<u8> {
-    let places = [20447, 20451, 20459, 20463, 20467, 20471, 20475];
-    let id = places.map(|k| image.get(k).copied().unwrap_or(0));
+    let id = ID_PLACES.map(|k| image.get(k).copied().unwrap_or(0));
     [&[0xDF, 0xFF, 0x00, 0x07], &id[..]].concat()
 }
 
