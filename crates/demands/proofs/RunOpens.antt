@@ -7,13 +7,14 @@ use native.Mathlib.Decide.{decLt}
 use mathlib.Core.Bool.{false}
 use mathlib.Core.Logic.{_↔_, _⊎_, inl, inr}
 use mathlib.Core.Path.{_≡_, refl, ap, sym, _∙_, subst}
-use mathlib.Core.List.{List, [], _∷_, _++_, append-nil, append-assoc}
+use mathlib.Core.List.{List, [], _∷_, _++_, append-nil}
 use lib.ListN.{length, take, length-append}
 use lib.Seq.{take-append-seam}
 use Rattle.packets.specs.Pieces.{Each, joined, Stretch, stretchBytes, Wakes, Dull, Packet, packetBytes, right}
 use Rattle.packets.specs.Readings.{Bytes as PacketBytes, Log, slept, stayed-shut, opened, logBytes, Wrong, Reads, Reading}
 use Rattle.packets.specs.Counts.{checks, wrongChecks}
 use Rattle.packets.proofs.Readings.{reading}
+use Rattle.packets.proofs.Openings.{unread-last}
 use Rattle.slices.specs.Lists.{Bytes}
 use Rattle.unit.specs.declared.Inputs.{Inputs}
 use Rattle.unit.specs.declared.Registers.{Registers}
@@ -62,9 +63,6 @@ packet-bytes : (bs : List ℕ) → Bytes bs → PacketBytes bs
 packet-bytes [] y = tt
 packet-bytes (b ∷ bs) y = (y .0, packet-bytes bs (y .1))
 
-regroup : (a b c d e : List ℕ) → a ++ (b ++ (c ++ (d ++ e))) ≡ (a ++ (b ++ (c ++ (d ++ [])))) ++ e
-regroup a b c d e = simp append-assoc
-
 opening-comes : {i bs : List ℕ} (o : OpeningInTime i bs) → Comes i start (Opens (checks (o .opening .packets))) bs
 opening-comes {i} o =
     let p = o .opening in
@@ -95,7 +93,7 @@ log-tells i bs (opened d w ps unread) r e = go (decLt (checks ps) lockAfter)
   where
     go : Dec (checks ps < lockAfter) → Told i bs (checks ps)
     go (yes few) =
-        opens (logBytes i (opened d w ps [])) unread (e ∙ regroup (joined stretchBytes d) (stretchBytes w) (joined packetBytes ps) (packetBytes (right i)) unread)
+        opens (logBytes i (opened d w ps [])) unread (e ∙ unread-last i d w ps unread)
         (record { opening = record { dull = d; wake = w; packets = ps; reads = r; whole = refl }; few = few }) refl
     go (no many) =
         let full : min lockAfter (checks ps) ≡ lockAfter = omega arith in

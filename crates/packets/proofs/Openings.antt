@@ -11,7 +11,8 @@ use Rattle.packets.specs.Readings.{Log, slept, stayed-shut, opened, logB
 use Rattle.packets.proofs.Readings.{one-reading}
 
 module _ (ids : List ℕ) where
-  unread-last : (dull : List Stretch) (wake : Stretch) (packets : List Packet) (unread : List ℕ)
+  -- what is left unread stands at the end
+  pub unread-last : (dull : List Stretch) (wake : Stretch) (packets : List Packet) (unread : List ℕ)
       → logBytes ids (opened dull wake packets unread) ≡ logBytes ids (opened dull wake packets []) ++ unread
   unread-last dull wake packets unread = regroup (joined stretchBytes dull) (stretchBytes wake) (joined packetBytes packets) (packetBytes (right ids))
     where
