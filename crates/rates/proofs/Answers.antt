@@ -1,0 +1,132 @@
+-- The answer to any clock and any rate is what Item 7's words ask, and nothing else is: the two tests are those words, and where both hold the plan is the one nearest.
+use mathlib.Core.Path.{_≡_, refl, sym, ap, _∙_, subst}
+use mathlib.Core.Logic.{_⊎_, inl, inr, ⊎-elim, _↔_}
+use mathlib.Core.Bool.{Bool, true, false, _&&_, _||_, cond}
+use Prim.Native.Nat.{ℕ, _≤_}
+use lib.Dec.{T, eqb}
+use lib.Ieee.{Float, le, isNan, ofInt}
+use lib.Ieee.Bits.{is-true}
+use lib.Ieee.Fits.{and-i, and-l, and-r}
+use borrow.Author.Tests.{eqb-true, eq-eqb}
+use Rattle.rates.specs.declared.Clock.{Clock}
+use Rattle.rates.specs.declared.Clock.the-variants.{Fixed8, Fixed7, External}
+use Rattle.rates.specs.declared.Plan.{Plan}
+use Rattle.rates.specs.declared.Planned.{Planned}
+use Rattle.rates.specs.Clocks.{float, hertz, inRange, isTaken}
+use Rattle.rates.specs.Rates.{rates, among, isListed, planAt, farness}
+use Rattle.rates.specs.Plans.{bestDivider, madePlan, refusedWith, planned}
+use Rattle.rates.specs.Search.{bestUpTo}
+use Rattle.rates.specs.Nearest.{Nearest, Taken, Listed, Answer, plan-made, clock-refused, rate-refused}
+use Rattle.rates.proofs.Tests.{holds, not-both}
+use Rattle.rates.proofs.Order.{Real, le-real}
+use Rattle.rates.proofs.Real.{distance-real}
+use Rattle.rates.proofs.Least.{only}
+use Rattle.rates.proofs.Chosen.{nearest-is, search-finds, chosen-nearest}
+
+-- ---- the clock
+
+-- a fixed clock is in range
+pub taken-in-range : (c : Clock) → inRange (hertz c) ≡ isTaken c
+unfolding isTaken inRange hertz float le ofInt
+taken-in-range Fixed8 = refl
+taken-in-range Fixed7 = refl
+taken-in-range (External f) = refl
+
+taken : (c : Clock) → isTaken c ≡ true → Taken c
+unfolding isTaken inRange
+taken Fixed8 e = tt
+taken Fixed7 e = tt
+taken (External f) e =
+    (is-true _ (and-l (le (float 2000000) f) (le f (float 20000000)) (holds e)), is-true _ (and-r (le (float 2000000) f) (le f (float 20000000)) (holds e)))
+
+taken-back : (c : Clock) → Taken c → isTaken c ≡ true
+unfolding isTaken inRange
+taken-back Fixed8 h = refl
+taken-back Fixed7 h = refl
+taken-back (External f) h = is-true _ (and-i (le (float 2000000) f) (le f (float 20000000)) (holds (h .0)) (holds (h .1)))
+
+pub taken-real : (c : Clock) → Taken c → Real (hertz c)
+unfolding hertz float ofInt isNan
+taken-real Fixed8 h = tt
+taken-real Fixed7 h = tt
+taken-real (External f) h = le-real (float 2000000) f (holds (h .0))
+
+-- ---- the rate
+
+one-more : (rate n : ℕ) (b : Bool) {R : Type 0} → (b ≡ true → R) → eqb rate n || b ≡ true → (rate ≡ n) ⊎ R
+one-more rate n b {R} k e = go (eqb rate n) refl e
+  where
+    go : (t : Bool) → eqb rate n ≡ t → t || b ≡ true → (rate ≡ n) ⊎ R
+    go true i j = inl (eqb-true rate n i)
+    go false i j = inr (k j)
+
+last : (rate n : ℕ) → eqb rate n || false ≡ true → rate ≡ n
+last rate n e = ⊎-elim (λ i. i) (λ i. absurd i) (one-more rate n false (λ j. not-both j refl) e)
+
+listed : (rate : ℕ) → isListed rate ≡ true → Listed rate
+unfolding isListed
+listed rate e = one-more rate 9600 _ (one-more rate 19200 _ (one-more rate 38400 _ (one-more rate 57600 _ (last rate 115200)))) e
+
+listed-back : (rate : ℕ) → Listed rate → isListed rate ≡ true
+unfolding isListed
+listed-back rate h = ⊎-elim (at 9600 refl) (⊎-elim (at 19200 refl) (⊎-elim (at 38400 refl) (⊎-elim (at 57600 refl) (at 115200 refl)))) h
+  where
+    at : (n : ℕ) → isListed n ≡ true → rate ≡ n → isListed rate ≡ true
+    at n y e = ap isListed e ∙ y
+
+-- ---- the answer
+
+module _ (c : Clock) (rate : ℕ) where
+  module _ (t : isTaken c ≡ true) (l : isListed rate ≡ true) where
+    all-real : (j : ℕ) → j ≤ 255 → Real (farness (hertz c) rate j)
+    all-real j h = distance-real (hertz c) rate j (taken-real c (taken c t)) (listed rate l) h
+
+    is-made : planned c rate ≡ madePlan (planAt (hertz c) rate (bestDivider (hertz c) rate))
+    unfolding planned
+    is-made = rw (t, l)
+
+    -- what the code's search finds is answered
+    pub made : (p : Plan) → p ≡ bestUpTo (hertz c) rate 255 → madePlan p ≡ planned c rate
+    made p e = ap madePlan (e ∙ search-finds (hertz c) rate all-real) ∙ sym is-made
+
+    made-is : (p : Plan) → Nearest (hertz c) rate p → madePlan p ≡ planned c rate
+    made-is p n = ap madePlan (nearest-is (hertz c) rate p n) ∙ sym is-made
+
+    made-nearest : Nearest (hertz c) rate (planned c rate .plan)
+    made-nearest = subst (λ (a : Planned). Nearest (hertz c) rate (a .plan)) (sym is-made) (chosen-nearest (hertz c) rate all-real)
+
+  pub not-listed : isTaken c ≡ true → isListed rate ≡ false → refusedWith 10 ≡ planned c rate
+  unfolding planned
+  not-listed t l = rw (t, l)
+
+  pub not-taken : isTaken c ≡ false → refusedWith 9 ≡ planned c rate
+  unfolding planned
+  not-taken t = rw t
+
+  rebuilt : (a : Planned) → a .refusal ≡ 0 → a ≡ madePlan (a .plan)
+  rebuilt a e = ap (λ (n : ℕ). record { refusal = n; plan = a .plan }) e
+
+  answered : Answer c rate (planned c rate)
+  answered = go (isTaken c) (isListed rate) refl refl
+    where
+      go : (t l : Bool) → isTaken c ≡ t → isListed rate ≡ l → Answer c rate (planned c rate)
+      go true true t l = plan-made (taken c t) (listed rate l) (ap (λ (a : Planned). a .refusal) (is-made t l)) (made-nearest t l)
+      go true false t l = rate-refused (taken c t) (λ h. not-both (listed-back rate h) l) (sym (not-listed t l))
+      go false l t _ = clock-refused (λ h. not-both (taken-back c h) t) (sym (not-taken t))
+
+  no-other : (a : Planned) → Answer c rate a → a ≡ planned c rate
+  no-other a (plan-made t l r n) = rebuilt a r ∙ made-is (taken-back c t) (listed-back rate l) (a .plan) n
+  no-other a (clock-refused t e) = e ∙ not-taken (no-taken (isTaken c) refl)
+    where
+      no-taken : (b : Bool) → isTaken c ≡ b → b ≡ false
+      no-taken true i = absurd (t (taken c i))
+      no-taken false i = refl
+  no-other a (rate-refused t l e) = e ∙ not-listed (taken-back c t) (no-listed (isListed rate) refl)
+    where
+      no-listed : (b : Bool) → isListed rate ≡ b → b ≡ false
+      no-listed true i = absurd (l (listed rate i))
+      no-listed false i = refl
+
+  -- Item 7, whole: what is planned is the answer that its words ask for, and no other is
+  pub plans-exactly : (a : Planned) → (a ≡ planned c rate) ↔ Answer c rate a
+  plans-exactly a = (λ e. subst (Answer c rate) (sym e) answered, no-other a)

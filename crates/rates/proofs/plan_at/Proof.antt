@@ -1,0 +1,35 @@
+-- Each float operation of the code is the one of the definition, in the same order, and 16.0 is the float of 16.
+use lib.Ieee.{ofInt, ofBits}
+use Rattle.rates.specs.Clocks.{float}
+use Rattle.rates.specs.Rates.{planAt, reachedAt, apart}
+use borrow.Author.Needs.{needs}
+use Rattle.rates.proofs.plan_at.Statement.{statement}
+use Rattle.rates.proofs.plan_at.Tie as tie
+use Rattle.rates.proofs.plan_at.Reads as reads
+use Rattle.rates.proofs.plan_at.Lts as lts
+
+-- src/lib.rt:65:18
+int-to-float-wanted : tie.Need-int-to-float-wanted
+int-to-float-wanted c = search needs
+
+-- src/lib.rt:66:32
+add-reached : tie.Need-add-reached
+add-reached c = search needs
+
+-- src/lib.rt:66:31
+int-to-float-reached : tie.Need-int-to-float-reached
+int-to-float-reached c = search needs
+
+-- src/lib.rt:62:1
+returns : tie.Need-returns
+unfolding planAt reachedAt apart float ofInt ofBits
+returns c = rw (c .if1 .taken)
+
+-- src/lib.rt:62:1
+returns-2 : tie.Need-returns-2
+unfolding planAt reachedAt apart float ofInt ofBits
+returns-2 c = rw (c .if1 .left)
+
+pub plan-at-spec : {M : Type 1} → statement M
+plan-at-spec =
+    tie.close (tie.spec int-to-float-wanted add-reached int-to-float-reached returns returns-2)

@@ -1,0 +1,5 @@
+pub mod Clocks
+pub mod Rates
+pub mod Plans
+pub mod Nearest
+pub mod Search
