@@ -1,5 +1,6 @@
 //! Batches of cases: the reader and the answer writer of CASES.md.
 
+use crate::batch::{read_up_to, Stop};
 use crate::flash::IMAGE_LEN;
 use crate::port::{byte, run, start, Answer, AREA_SIZE, IMAGE_SIZE, REPLY_ROOM, UNIT_RANGE};
 use crate::record::{decode, encode, Record, RECORD_LEN};
@@ -10,20 +11,6 @@ const CASE_MAX: usize = 65_536;
 const IMAGE_MAX: usize = 32_768;
 const AREA_MAX: usize = 16_384;
 
-/// Why a replay ended before the end of its input.
-#[derive(Debug)]
-pub enum Stop {
-    /// The case of this number, from 1, is not well formed.
-    BadCase(u64),
-    Io(io::Error),
-}
-
-impl From<io::Error> for Stop {
-    fn from(error: io::Error) -> Stop {
-        Stop::Io(error)
-    }
-}
-
 /// Answers every case of the input. Nothing is written for a case that is not well formed, and
 /// nothing after it is read.
 pub fn replay(input: &mut impl Read, output: &mut impl Write) -> Result<(), Stop> {
@@ -33,34 +20,20 @@ pub fn replay(input: &mut impl Read, output: &mut impl Write) -> Result<(), Stop
         match read_up_to(input, &mut len)? {
             0 => break,
             4 => {}
-            _ => return Err(Stop::BadCase(number)),
+            _ => return Err(Stop::Malformed(number)),
         }
         let len = u32::from_le_bytes(len) as usize;
         if len > CASE_MAX {
-            return Err(Stop::BadCase(number));
+            return Err(Stop::Malformed(number));
         }
         body.resize(len, 0);
         if read_up_to(input, &mut body)? < len {
-            return Err(Stop::BadCase(number));
+            return Err(Stop::Malformed(number));
         }
-        let case = Case::parse(&body).ok_or(Stop::BadCase(number))?;
+        let case = Case::parse(&body).ok_or(Stop::Malformed(number))?;
         case.answer(output)?;
     }
     Ok(())
-}
-
-/// Fills the buffer as far as the input goes.
-fn read_up_to(input: &mut impl Read, buffer: &mut [u8]) -> io::Result<usize> {
-    let mut filled = 0;
-    while filled < buffer.len() {
-        match input.read(&mut buffer[filled..]) {
-            Ok(0) => break,
-            Ok(n) => filled += n,
-            Err(error) if error.kind() == io::ErrorKind::Interrupted => {}
-            Err(error) => return Err(error),
-        }
-    }
-    Ok(filled)
 }
 
 struct Case<'a> {

@@ -22,7 +22,8 @@ pub const ID_ADDRESSES: [u32; 7] = [
 /// Addresses that all hold FF in a blank image (0FFFF is not looked at).
 pub const BLANK_ADDRESSES: [u32; 3] = [0x0FFFC, 0x0FFFD, 0x0FFFE];
 
-/// The low 16 address bits plus the size of a page program are at most this: it may end with its bank.
+/// The low 16 address bits plus the size of a page program are at most this: it may end with its
+/// bank.
 pub const PAGE_PROGRAM_END: u32 = 65_536;
 /// The same for a unit program: it does not reach the last byte of its bank.
 pub const UNIT_PROGRAM_END: u32 = 65_535;

@@ -1,23 +1,26 @@
-//! The binary: `reference bench`, `reference replay`, `reference sessions`.
+//! The binary: `reference bench`, `reference replay`, `reference replan`, `reference sessions`.
 
 #![forbid(unsafe_code)]
 
-use reference::cases::{replay, Stop};
-use reference::{bench, flash, sessions};
+use reference::batch::Stop;
+use reference::{bench, cases, flash, plans, sessions};
 use std::fs::File;
-use std::io::{self, BufReader, BufWriter, Read, Write};
+use std::io::{self, BufReader, BufWriter, Read, StdinLock, StdoutLock, Write};
 use std::process::ExitCode;
 
 const BUFFER: usize = 1 << 16;
+type Input = BufReader<StdinLock<'static>>;
+type Output = BufWriter<StdoutLock<'static>>;
 
 fn main() -> ExitCode {
     let arguments: Vec<_> = std::env::args_os().skip(1).collect();
     let done = match arguments.as_slice() {
         [word] if word == "bench" => run_bench(),
-        [word] if word == "replay" => run_replay(),
+        [word] if word == "replay" => run_batch("case", cases::replay),
+        [word] if word == "replan" => run_batch("record", plans::replan),
         [word] if word == "sessions" => run_sessions(),
         _ => {
-            eprintln!("usage: reference bench | replay | sessions");
+            eprintln!("usage: reference bench | replay | replan | sessions");
             return ExitCode::from(2);
         }
     };
@@ -51,16 +54,21 @@ fn read_image() -> Option<Vec<u8>> {
     Some(image)
 }
 
-fn run_replay() -> io::Result<bool> {
+/// Answers a batch of cases or records. A bad one is told on standard error, as `what` and its
+/// number.
+fn run_batch(
+    what: &str,
+    answer: impl FnOnce(&mut Input, &mut Output) -> Result<(), Stop>,
+) -> io::Result<bool> {
     let mut input = BufReader::with_capacity(BUFFER, io::stdin().lock());
     let mut output = BufWriter::with_capacity(BUFFER, io::stdout().lock());
-    let done = replay(&mut input, &mut output);
-    // The answers of the cases before a bad one are written in any case.
+    let done = answer(&mut input, &mut output);
+    // What stands before a bad case or record is answered.
     output.flush()?;
     match done {
         Ok(()) => Ok(true),
-        Err(Stop::BadCase(number)) => {
-            eprintln!("reference: case {number} is not well formed");
+        Err(Stop::Malformed(number)) => {
+            eprintln!("reference: {what} {number} is not well formed");
             Ok(false)
         }
         Err(Stop::Io(error)) => Err(error),

@@ -3,8 +3,8 @@ use mathlib.Core.Path.{_≡_, refl, sym, ap, _∙_, subst}
 use mathlib.Core.Logic.{_⊎_, inl, inr, ⊎-elim, _↔_}
 use mathlib.Core.Bool.{Bool, true, false, _&&_, _||_, cond}
 use Prim.Native.Nat.{ℕ, _≤_}
-use lib.Dec.{T, eqb}
-use lib.Ieee.{Float, le, isNan, ofInt}
+use lib.Dec.{eqb, lit≤}
+use lib.Ieee.{Float, le, ofInt}
 use lib.Ieee.Bits.{is-true}
 use lib.Ieee.Fits.{and-i, and-l, and-r}
 use borrow.Author.Tests.{eqb-true, eq-eqb}
@@ -15,11 +15,11 @@ use Rattle.rates.specs.declared.Planned.{Planned}
 use Rattle.rates.specs.Clocks.{float, hertz, inRange, isTaken}
 use Rattle.rates.specs.Rates.{rates, among, isListed, planAt, farness}
 use Rattle.rates.specs.Plans.{bestDivider, madePlan, refusedWith, planned}
-use Rattle.rates.specs.Search.{bestUpTo}
+use Rattle.rates.specs.Search.{bestUpTo, searched}
 use Rattle.rates.specs.Nearest.{Nearest, Taken, Listed, Answer, plan-made, clock-refused, rate-refused}
 use Rattle.rates.proofs.Tests.{holds, not-both}
-use Rattle.rates.proofs.Order.{Real, le-real}
-use Rattle.rates.proofs.Real.{distance-real}
+use Rattle.rates.proofs.Order.{Real, le-left-real}
+use Rattle.rates.proofs.Bounds.{ClockWithin, within, distance-most}
 use Rattle.rates.proofs.Least.{only}
 use Rattle.rates.proofs.Chosen.{nearest-is, search-finds, chosen-nearest}
 
@@ -32,24 +32,27 @@ taken-in-range Fixed8 = refl
 taken-in-range Fixed7 = refl
 taken-in-range (External f) = refl
 
-taken : (c : Clock) → isTaken c ≡ true → Taken c
-unfolding isTaken inRange
-taken Fixed8 e = tt
-taken Fixed7 e = tt
-taken (External f) e =
+in-range : (f : Float) → inRange f ≡ true → (le (float 2000000) f ≡ true) × (le f (float 20000000) ≡ true)
+unfolding inRange
+in-range f e =
     (is-true _ (and-l (le (float 2000000) f) (le f (float 20000000)) (holds e)), is-true _ (and-r (le (float 2000000) f) (le f (float 20000000)) (holds e)))
 
-taken-back : (c : Clock) → Taken c → isTaken c ≡ true
+taken : (c : Clock) → isTaken c ≡ true → Taken c
+unfolding isTaken
+taken Fixed8 e = tt
+taken Fixed7 e = tt
+taken (External f) e = in-range f e
+
+pub taken-back : (c : Clock) → Taken c → isTaken c ≡ true
 unfolding isTaken inRange
 taken-back Fixed8 h = refl
 taken-back Fixed7 h = refl
 taken-back (External f) h = is-true _ (and-i (le (float 2000000) f) (le f (float 20000000)) (holds (h .0)) (holds (h .1)))
 
-pub taken-real : (c : Clock) → Taken c → Real (hertz c)
-unfolding hertz float ofInt isNan
-taken-real Fixed8 h = tt
-taken-real Fixed7 h = tt
-taken-real (External f) h = le-real (float 2000000) f (holds (h .0))
+pub clock-within : (c : Clock) → isTaken c ≡ true → ClockWithin (hertz c)
+clock-within c e =
+    let b = in-range (hertz c) (taken-in-range c ∙ e) in
+    within 2000000 20000000 (hertz c) (lit≤ tt) (lit≤ tt) (lit≤ tt) (holds (b .0)) (holds (b .1))
 
 -- ---- the rate
 
@@ -79,7 +82,7 @@ listed-back rate h = ⊎-elim (at 9600 refl) (⊎-elim (at 19200 refl) (⊎-elim
 module _ (c : Clock) (rate : ℕ) where
   module _ (t : isTaken c ≡ true) (l : isListed rate ≡ true) where
     all-real : (j : ℕ) → j ≤ 255 → Real (farness (hertz c) rate j)
-    all-real j h = distance-real (hertz c) rate j (taken-real c (taken c t)) (listed rate l) h
+    all-real j h = le-left-real (farness (hertz c) rate j) (float 1250000) (distance-most (hertz c) rate j (clock-within c t) (listed rate l) h)
 
     is-made : planned c rate ≡ madePlan (planAt (hertz c) rate (bestDivider (hertz c) rate))
     unfolding planned
@@ -102,6 +105,21 @@ module _ (c : Clock) (rate : ℕ) where
   pub not-taken : isTaken c ≡ false → refusedWith 9 ≡ planned c rate
   unfolding planned
   not-taken t = rw t
+
+  pub searched-is : searched c rate ≡ planned c rate
+  unfolding searched
+  searched-is = go (isTaken c) (isListed rate) refl refl
+    where
+      go : (t l : Bool) → isTaken c ≡ t → isListed rate ≡ l
+          → cond t (cond l (madePlan (bestUpTo (hertz c) rate 255)) (refusedWith 10)) (refusedWith 9) ≡ planned c rate
+      go true true t l = made t l (bestUpTo (hertz c) rate 255) refl
+      go true false t l = not-listed t l
+      go false l t _ = not-taken t
+
+  -- F5: a fixed clock and an external one of the same frequency have the same answer
+  pub as-external : planned c rate ≡ planned (External (hertz c)) rate
+  unfolding planned isTaken hertz
+  as-external = rw (taken-in-range c)
 
   rebuilt : (a : Planned) → a .refusal ≡ 0 → a ≡ madePlan (a .plan)
   rebuilt a e = ap (λ (n : ℕ). record { refusal = n; plan = a .plan }) e

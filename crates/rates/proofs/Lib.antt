@@ -1,7 +1,9 @@
 -- What the proofs of several functions use.
 mod Tests
 mod Order
-mod Real
+mod Bounds
 pub mod Least
 pub mod Chosen
 pub mod Answers
+pub mod Patterns
+pub mod Pinned

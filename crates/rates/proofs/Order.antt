@@ -230,7 +230,7 @@ le→not-lt (fin s m e) (fin t n d) h =
     let b = n * up d * down e in
     one-of (below s a t b) (level s a t b) (flips s t a b) (level-not-below s t a b) h
 
-pub le-real : (x y : Float) → T (le x y) → Real y
+le-real : (x y : Float) → T (le x y) → Real y
 unfolding le lt eq isNan
 le-real nan y h = absurd h
 le-real (inf s) nan h = absurd h
@@ -239,6 +239,12 @@ le-real (inf s) (fin t n d) h = tt
 le-real (fin s m e) nan h = absurd h
 le-real (fin s m e) (inf t) h = tt
 le-real (fin s m e) (fin t n d) h = tt
+
+pub le-left-real : (x y : Float) → T (le x y) → Real x
+unfolding le lt eq isNan
+le-left-real nan y h = absurd h
+le-left-real (inf s) y h = tt
+le-left-real (fin s m e) y h = tt
 
 pub lt-le-trans : (x y z : Float) → T (lt x y) → T (le y z) → T (lt x z)
 lt-le-trans x y z h k = lt-below x z y h (le→not-lt y z k) (le-real y z k)

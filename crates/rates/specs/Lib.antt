@@ -3,3 +3,4 @@ pub mod Rates
 pub mod Plans
 pub mod Nearest
 pub mod Search
+pub mod Floats

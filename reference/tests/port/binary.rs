@@ -1,11 +1,12 @@
 //! The binary itself.
 
-use crate::support::{barely_blank, framed, woken, WORKED_EXAMPLE};
+use crate::support::{barely_blank, framed, woken, PLAN_ANSWERS, PLAN_RECORDS, WORKED_EXAMPLE};
 use reference::sessions::image;
 use std::fs;
 use std::io::Write;
 use std::path::{Path, PathBuf};
 use std::process::{Command, Output, Stdio};
+use std::thread;
 
 fn reference(arguments: &[&str], folder: &Path, input: &[u8]) -> Output {
     let mut child = Command::new(env!("CARGO_BIN_EXE_reference"))
@@ -16,9 +17,15 @@ fn reference(arguments: &[&str], folder: &Path, input: &[u8]) -> Output {
         .stderr(Stdio::piped())
         .spawn()
         .unwrap();
-    // The program may end before it has read all of its input.
-    let _ = child.stdin.take().unwrap().write_all(input);
-    child.wait_with_output().unwrap()
+    let mut stdin = child.stdin.take().unwrap();
+    // Written while the output is read, since no pipe holds a large batch or its answers. The
+    // program may end before it has read all of its input.
+    thread::scope(|scope| {
+        scope.spawn(move || {
+            let _ = stdin.write_all(input);
+        });
+        child.wait_with_output().unwrap()
+    })
 }
 
 /// A folder of the test's own, with this unit.img if there is one.
@@ -116,4 +123,38 @@ fn replay() {
     assert_eq!(output.stdout, expected);
     assert_eq!(String::from_utf8(output.stderr).unwrap().lines().count(), 1);
     assert_eq!(output.status.code(), Some(1));
+}
+
+#[test]
+fn replan() {
+    let here = folder("replan", None);
+    let output = reference(&["replan"], &here, &[]);
+    assert_eq!((output.status.code(), output.stdout), (Some(0), vec![]));
+    let good = PLAN_RECORDS.concat();
+    let output = reference(&["replan"], &here, &good);
+    assert_eq!(output.stdout, PLAN_ANSWERS.concat());
+    assert_eq!(output.status.code(), Some(0));
+    assert!(output.stderr.is_empty());
+    // A bad record after them, of clock 3 or cut short: their answers, and one line.
+    let clock_3 = [&[3; 13][..], &good].concat();
+    for bad in [&clock_3[..], &good[..12], &[2]] {
+        let output = reference(&["replan"], &here, &[&good[..], bad].concat());
+        assert_eq!(output.stdout, PLAN_ANSWERS.concat());
+        assert_eq!(String::from_utf8(output.stderr).unwrap().lines().count(), 1);
+        assert_eq!(output.status.code(), Some(1));
+    }
+}
+
+#[test]
+fn replan_of_a_large_batch() {
+    let here = folder("replan-large", None);
+    let mut batch = PLAN_RECORDS.concat().repeat(40_000);
+    let expected = PLAN_ANSWERS.concat().repeat(40_000);
+    let output = reference(&["replan"], &here, &batch);
+    assert_eq!(output.status.code(), Some(0));
+    assert!(output.stdout == expected);
+    batch.push(0);
+    let output = reference(&["replan"], &here, &batch);
+    assert_eq!(output.status.code(), Some(1));
+    assert!(output.stdout == expected);
 }

@@ -1,7 +1,8 @@
 //! The case format, with cases built by hand here.
 
 use crate::support::{framed, in_packet, WRONG_ID_PACKET};
-use reference::cases::{replay, Stop};
+use reference::batch::Stop;
+use reference::cases::replay;
 use reference::record::{decode, encode, Record, RECORD_LEN};
 use reference::{Command, Unit};
 
@@ -126,7 +127,7 @@ fn answer(batch: &[u8]) -> Vec<u8> {
 fn stopped(batch: &[u8]) -> (Vec<u8>, u64) {
     let mut output = Vec::new();
     match replay(&mut &batch[..], &mut output) {
-        Err(Stop::BadCase(number)) => (output, number),
+        Err(Stop::Malformed(number)) => (output, number),
         other => panic!("{other:?}"),
     }
 }

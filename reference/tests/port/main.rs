@@ -1,5 +1,5 @@
-//! The tests of the second program: expected values typed from document 01, Items 3 and 5 of
-//! document 02 and CASES.md.
+//! The tests of the second program: expected values typed from document 01, Items 3, 5 and 7 of
+//! document 02 and CASES.md, or derived from them by exact arithmetic.
 
 mod bench;
 mod binary;
@@ -10,6 +10,9 @@ mod flash;
 mod id_check;
 mod mismatches;
 mod packets;
+mod plan_batches;
+mod plan_rounding;
+mod plans;
 mod program_erase;
 mod random;
 mod ranges;

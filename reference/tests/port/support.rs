@@ -1,5 +1,7 @@
-//! What several of these files build on; its values are typed from the documents like the tests' own.
+//! What several of these files build on; its values are typed from the documents like the tests'
+//! own.
 
+use reference::plan::{plan, Clock};
 use reference::sessions::Rig;
 use reference::{Command, Phase};
 use std::ops::Range;
@@ -20,8 +22,44 @@ pub const ID_ADDRESSES: [u32; 7] = [
 /// Image offsets of blocks 0 to 3.
 pub const CELLS: [Range<usize>; 4] = [0..2048, 2048..4096, 4096..12_288, 12_288..20_480];
 
+/// The rates that a plan may be asked for.
+pub const RATES: [u32; 5] = [9600, 19_200, 38_400, 57_600, 115_200];
+
 /// The bench's text for the sessions' image and `woken(&[0x70, 0xFB])`.
 pub const WORKED_EXAMPLE: &str = "17: B0\n18: 80 00\n19: 56 45 52 2E 32 2E 30 30\nend 80 00\n";
+
+/// Records of the format of plans: 8 MHz for 9600 (its frequency, a NaN, is not looked at);
+/// 7.3728 MHz for 57600; 2,457,600 Hz for 115200; a clock under the lower bound with a rate that is
+/// not listed; 8,000,000 Hz for rate 0.
+pub const PLAN_RECORDS: [[u8; 13]; 5] = [
+    [
+        0, 0xFF, 0xFF, 0xFF, 0xFF, 0xFF, 0xFF, 0xFF, 0xFF, 0x80, 0x25, 0x00, 0x00,
+    ],
+    [1, 0, 0, 0, 0, 0, 0, 0, 0, 0x00, 0xE1, 0x00, 0x00],
+    [2, 0, 0, 0, 0, 0, 0xC0, 0x42, 0x41, 0x00, 0xC2, 0x01, 0x00],
+    [
+        2, 0xFF, 0xFF, 0xFF, 0xFF, 0x7F, 0x84, 0x3E, 0x41, 0xFF, 0xFF, 0xFF, 0xFF,
+    ],
+    [
+        2, 0, 0, 0, 0, 0x80, 0x84, 0x5E, 0x41, 0x00, 0x00, 0x00, 0x00,
+    ],
+];
+
+/// Their answers: 125,000/13 and its distance, an exact hit, 153,600 and 38,400, refusals 9 and 10.
+pub const PLAN_ANSWERS: [[u8; 18]; 5] = [
+    [
+        0, 51, 0x3B, 0xB1, 0x13, 0x3B, 0xB1, 0xC7, 0xC2, 0x40, 0x00, 0xEC, 0xC4, 0x4E, 0xEC, 0xC4,
+        0x2E, 0x40,
+    ],
+    [
+        0, 7, 0, 0, 0, 0, 0, 0x20, 0xEC, 0x40, 0, 0, 0, 0, 0, 0, 0, 0,
+    ],
+    [
+        0, 0, 0, 0, 0, 0, 0, 0xC0, 0x02, 0x41, 0, 0, 0, 0, 0, 0xC0, 0xE2, 0x40,
+    ],
+    [9, 0, 0, 0, 0, 0, 0, 0, 0, 0, 0, 0, 0, 0, 0, 0, 0, 0],
+    [10, 0, 0, 0, 0, 0, 0, 0, 0, 0, 0, 0, 0, 0, 0, 0, 0, 0],
+];
 
 pub fn is_protected(protection: u8, block: usize) -> bool {
     protection & (1 << block) != 0
@@ -66,4 +104,23 @@ pub fn status_after(rig: &mut Rig, bytes: &[u8]) -> [u8; 2] {
 /// A case's body with its length before it.
 pub fn framed(body: &[u8]) -> Vec<u8> {
     [&(body.len() as u32).to_le_bytes()[..], body].concat()
+}
+
+/// A plan's answer bit for bit: refusal, divider, reached rate, distance.
+pub fn plan_bits(clock: Clock, wanted: u32) -> (u8, u8, u64, u64) {
+    let (refusal, plan) = plan(clock, wanted);
+    (
+        refusal,
+        plan.divider,
+        plan.reached.to_bits(),
+        plan.distance.to_bits(),
+    )
+}
+
+/// Divider, reached rate and distance of a plan that must not be refused.
+#[track_caller]
+pub fn made_plan(clock: Clock, wanted: u32) -> (u8, u64, u64) {
+    let (refusal, divider, reached, distance) = plan_bits(clock, wanted);
+    assert_eq!(refusal, 0);
+    (divider, reached, distance)
 }

@@ -1,0 +1,2 @@
+-- Plans that are computed.
+pub mod Vectors
