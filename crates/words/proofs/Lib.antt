@@ -1,0 +1,4 @@
+-- What the proofs of several functions use.
+mod Texts
+pub mod Examples
+pub mod Pinned

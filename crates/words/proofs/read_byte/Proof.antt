@@ -1,0 +1,67 @@
+-- The tests are those of the definition, and a digit is at least 0x30.
+use borrow.Author.Tests.{eq-eqb, ne-eqb}
+use Rattle.words.proofs.Texts.{digit-least}
+use mathlib.Core.Path.{sym, _∙_}
+use Rattle.words.specs.Numbers.{readByte}
+use borrow.Author.Needs.{needs}
+use Rattle.words.proofs.read_byte.Statement.{statement}
+use Rattle.words.proofs.read_byte.Tie as tie
+use Rattle.words.proofs.read_byte.Reads as reads
+use Rattle.words.proofs.read_byte.Lts as lts
+use Rattle.words.proofs.after_point.Reads as after-point-reads
+use Rattle.words.proofs.digit_in.Reads as digit-in-reads
+use Rattle.words.proofs.is_digit.Reads as is-digit-reads
+use Rattle.words.proofs.with_state.Reads as with-state-reads
+
+-- src/lib.rt:117:8
+is-digit-requires : tie.Need-is-digit-requires
+is-digit-requires c κs = search needs
+
+-- src/lib.rt:118:35
+sub-digit-in : tie.Need-sub-digit-in
+sub-digit-in c = digit-least _ (sym (c .before .is-digit .ensures) ∙ c .if1 .taken)
+
+-- src/lib.rt:118:9
+digit-in-requires : tie.Need-digit-in-requires
+digit-in-requires c κs = search needs
+
+-- src/lib.rt:118:9
+returns : tie.Need-returns
+unfolding readByte
+returns c = c .digit-in .ensures ∙ rw (sym (c .before .before .is-digit .ensures) ∙ c .before .if1 .taken)
+
+-- src/lib.rt:121:30
+after-point-requires : tie.Need-after-point-requires
+after-point-requires c κs = search needs
+
+-- src/lib.rt:121:9
+with-state-requires : tie.Need-with-state-requires
+with-state-requires c κs = search needs
+
+-- src/lib.rt:121:9
+returns-2 : tie.Need-returns-2
+unfolding readByte
+returns-2 c = c .with-state .ensures ∙ rw (sym (c .before .before .before .before .is-digit .ensures) ∙ c .before .before .before .if1 .left, eq-eqb _ _ (c .before .before .if2 .taken), c .before .after-point .ensures)
+
+-- src/lib.rt:123:5
+with-state-requires-2 : tie.Need-with-state-requires-2
+with-state-requires-2 c κs = search needs
+
+-- src/lib.rt:113:1
+returns-3 : tie.Need-returns-3
+unfolding readByte
+returns-3 c = c .with-state2 .ensures ∙ rw (sym (c .before .before .before .is-digit .ensures) ∙ c .before .before .if1 .left, ne-eqb _ _ (c .before .if2 .left))
+
+pub read-byte-spec : {M : Type 1} → statement M
+read-byte-spec =
+    tie.close
+    (tie.spec
+    is-digit-requires
+    sub-digit-in
+    digit-in-requires
+    returns
+    after-point-requires
+    with-state-requires
+    returns-2
+    with-state-requires-2
+    returns-3)
