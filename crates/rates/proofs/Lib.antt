@@ -1,5 +1,6 @@
 -- What the proofs of several functions use.
 mod Tests
+mod Steps
 mod Order
 mod Bounds
 pub mod Least

@@ -1,6 +1,7 @@
 -- The first test asks for 2,000,000 and the second for 20,000,000; where the first fails the whole test does.
 use lib.Ieee.{ofInt, ofBits}
-use Rattle.rates.specs.Clocks.{inRange, float}
+use Rattle.rates.specs.Clocks.{float}
+use Rattle.rates.proofs.Steps.{bottom-passed, bottom-failed}
 use Rattle.rates.proofs.is_in_range.Statement.{statement}
 use Rattle.rates.proofs.is_in_range.Tie as tie
 use Rattle.rates.proofs.is_in_range.Reads as reads
@@ -8,13 +9,13 @@ use Rattle.rates.proofs.is_in_range.Lts as lts
 
 -- src/lib.rt:38:1
 returns : tie.Need-returns
-unfolding inRange float ofInt ofBits
-returns c = rw (c .if1 .taken)
+unfolding float ofInt ofBits
+returns c = bottom-passed (c .before .args .f) (c .if1 .taken)
 
 -- src/lib.rt:38:1
 returns-2 : tie.Need-returns-2
-unfolding inRange float ofInt ofBits
-returns-2 c = rw (c .if1 .left)
+unfolding float ofInt ofBits
+returns-2 c = bottom-failed (c .before .args .f) (c .if1 .left)
 
 pub is-in-range-spec : {M : Type 1} → statement M
 is-in-range-spec = tie.close (tie.spec returns returns-2)

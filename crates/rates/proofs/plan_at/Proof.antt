@@ -1,7 +1,8 @@
 -- Each float operation of the code is the one of the definition, in the same order, and 16.0 is the float of 16.
 use lib.Ieee.{ofInt, ofBits}
 use Rattle.rates.specs.Clocks.{float}
-use Rattle.rates.specs.Rates.{planAt, reachedAt, apart}
+use Rattle.rates.specs.Rates.{reachedAt}
+use Rattle.rates.proofs.Steps.{below-wanted, not-below-wanted}
 use borrow.Author.Needs.{needs}
 use Rattle.rates.proofs.plan_at.Statement.{statement}
 use Rattle.rates.proofs.plan_at.Tie as tie
@@ -22,13 +23,13 @@ int-to-float-reached c = search needs
 
 -- src/lib.rt:62:1
 returns : tie.Need-returns
-unfolding planAt reachedAt apart float ofInt ofBits
-returns c = rw (c .if1 .taken)
+unfolding reachedAt float ofInt ofBits
+returns c = let a = c .before .before .before .args in below-wanted (a .f) (a .rate) (a .divider) (c .if1 .taken)
 
 -- src/lib.rt:62:1
 returns-2 : tie.Need-returns-2
-unfolding planAt reachedAt apart float ofInt ofBits
-returns-2 c = rw (c .if1 .left)
+unfolding reachedAt float ofInt ofBits
+returns-2 c = let a = c .before .before .before .args in not-below-wanted (a .f) (a .rate) (a .divider) (c .if1 .left)
 
 pub plan-at-spec : {M : Type 1} → statement M
 plan-at-spec =

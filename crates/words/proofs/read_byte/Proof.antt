@@ -1,8 +1,7 @@
 -- The tests are those of the definition, and a digit is at least 0x30.
-use borrow.Author.Tests.{eq-eqb, ne-eqb}
-use Rattle.words.proofs.Texts.{digit-least}
-use mathlib.Core.Path.{sym, _∙_}
-use Rattle.words.specs.Numbers.{readByte}
+use mathlib.Core.Path.{sym, ap, _∙_}
+use Rattle.words.specs.Numbers.{withState}
+use Rattle.words.proofs.Texts.{digit-least, digit-read, point-read, other-read}
 use borrow.Author.Needs.{needs}
 use Rattle.words.proofs.read_byte.Statement.{statement}
 use Rattle.words.proofs.read_byte.Tie as tie
@@ -27,8 +26,9 @@ digit-in-requires c κs = search needs
 
 -- src/lib.rt:118:9
 returns : tie.Need-returns
-unfolding readByte
-returns c = c .digit-in .ensures ∙ rw (sym (c .before .before .is-digit .ensures) ∙ c .before .if1 .taken)
+returns c =
+    let d = c .before .before in
+    c .digit-in .ensures ∙ digit-read (d .before .args .r) (d .before .args .b) (sym (d .is-digit .ensures) ∙ c .before .if1 .taken)
 
 -- src/lib.rt:121:30
 after-point-requires : tie.Need-after-point-requires
@@ -40,8 +40,12 @@ with-state-requires c κs = search needs
 
 -- src/lib.rt:121:9
 returns-2 : tie.Need-returns-2
-unfolding readByte
-returns-2 c = c .with-state .ensures ∙ rw (sym (c .before .before .before .before .is-digit .ensures) ∙ c .before .before .before .if1 .left, eq-eqb _ _ (c .before .before .if2 .taken), c .before .after-point .ensures)
+returns-2 c =
+    let d = c .before .before .before .before in
+    let r = d .before .args .r in
+    c .with-state .ensures
+    ∙ ap (withState r) (c .before .after-point .ensures)
+    ∙ point-read r (d .before .args .b) (sym (d .is-digit .ensures) ∙ c .before .before .before .if1 .left) (c .before .before .if2 .taken)
 
 -- src/lib.rt:123:5
 with-state-requires-2 : tie.Need-with-state-requires-2
@@ -49,8 +53,9 @@ with-state-requires-2 c κs = search needs
 
 -- src/lib.rt:113:1
 returns-3 : tie.Need-returns-3
-unfolding readByte
-returns-3 c = c .with-state2 .ensures ∙ rw (sym (c .before .before .before .is-digit .ensures) ∙ c .before .before .if1 .left, ne-eqb _ _ (c .before .if2 .left))
+returns-3 c =
+    let d = c .before .before .before in
+    c .with-state2 .ensures ∙ other-read (d .before .args .r) (d .before .args .b) (sym (d .is-digit .ensures) ∙ c .before .before .if1 .left) (c .before .if2 .left)
 
 pub read-byte-spec : {M : Type 1} → statement M
 read-byte-spec =
