@@ -1,63 +1,42 @@
 //! Holds the proved port to the independent second program: both answer the same cases, and the answers are compared byte for byte.
 
-use std::fs::{self, File};
-use std::path::{Path, PathBuf};
-use std::process::{Command, ExitCode, Stdio};
+use std::path::PathBuf;
+use std::process::ExitCode;
 use std::time::Instant;
 
 mod answer;
 mod case;
 mod draw;
+mod events;
 mod line;
+mod plan_draw;
+mod plan_rows;
+mod plans;
+mod programs;
 mod random;
 mod sessions;
 mod watch;
 
 use case::Case;
+use programs::Programs;
 use random::Random;
 use watch::Watch;
 
 /// Cases to a batch.
 const BATCH: usize = 250;
 
-const USAGE: &str = "usage: compare CASES SEED FOLDER PORT.. -- REFERENCE..\n\
+const USAGE: &str = "usage: compare [plans] CASES SEED FOLDER PORT.. -- REFERENCE..\n\
     CASES cases are drawn from the number SEED and given to both commands in batches; FOLDER holds the files in between.\n\
-    Before them the twelve sessions of document 01, with document 02's Items 3 and 5, are played and held to typed values.";
+    Before them the twelve sessions of document 01, with document 02's Items 3 and 5, are played and held to typed values.\n\
+    With 'plans' the cases are clocks and rates for the planner (Item 7), and typed plans and a source's table come before them.";
 
-struct Commands {
-    folder: PathBuf,
-    port: Vec<String>,
-    reference: Vec<String>,
-}
-
-fn answers(command: &[String], batch: &Path, out: &Path) -> Result<Vec<u8>, String> {
-    let input = File::open(batch).map_err(|e| format!("{}: {e}", batch.display()))?;
-    let output = File::create(out).map_err(|e| format!("{}: {e}", out.display()))?;
-    let status = Command::new(&command[0])
-        .args(&command[1..])
-        .stdin(Stdio::from(input))
-        .stdout(Stdio::from(output))
-        .status()
-        .map_err(|e| format!("{}: {e}", command[0]))?;
-    if !status.success() {
-        return Err(format!("{}: {status}", command[0]));
+/// What both programs answer to these cases.
+fn ask(programs: &Programs, cases: &[Case]) -> Result<(Vec<u8>, Vec<u8>), String> {
+    let mut bytes = Vec::new();
+    for case in cases {
+        case.lay(&mut bytes);
     }
-    fs::read(out).map_err(|e| format!("{}: {e}", out.display()))
-}
-
-impl Commands {
-    /// What both programs answer to these cases.
-    fn ask(&self, cases: &[Case]) -> Result<(Vec<u8>, Vec<u8>), String> {
-        let mut bytes = Vec::new();
-        for case in cases {
-            case.lay(&mut bytes);
-        }
-        let batch = self.folder.join("batch");
-        fs::write(&batch, bytes).map_err(|e| format!("{}: {e}", batch.display()))?;
-        let port = answers(&self.port, &batch, &self.folder.join("port.out"))?;
-        let reference = answers(&self.reference, &batch, &self.folder.join("reference.out"))?;
-        Ok((port, reference))
-    }
+    programs.ask(&bytes)
 }
 
 /// Says where two answers to a case first differ.
@@ -137,10 +116,10 @@ fn by_case<'a>(
     (pairs, !port.is_empty() || !reference.is_empty())
 }
 
-fn play_sessions(commands: &Commands) -> Result<bool, String> {
+fn play_sessions(programs: &Programs) -> Result<bool, String> {
     let sessions = sessions::all();
     let cases: Vec<Case> = sessions.iter().map(|s| s.case.clone()).collect();
-    let (port, reference) = commands.ask(&cases)?;
+    let (port, reference) = ask(programs, &cases)?;
     let (pairs, more) = by_case(&cases, &port, &reference);
     let mut good = !more;
     if more {
@@ -169,8 +148,8 @@ fn play_sessions(commands: &Commands) -> Result<bool, String> {
     Ok(good)
 }
 
-fn compare(commands: &Commands, count: usize, seed: u64) -> Result<bool, String> {
-    let mut good = play_sessions(commands)?;
+fn compare(programs: &Programs, count: usize, seed: u64) -> Result<bool, String> {
+    let mut good = play_sessions(programs)?;
     let mut random = Random::new(seed);
     let mut watch = Watch::default();
     let began = Instant::now();
@@ -179,7 +158,7 @@ fn compare(commands: &Commands, count: usize, seed: u64) -> Result<bool, String>
         let cases: Vec<Case> = (0..BATCH.min(count - done))
             .map(|_| draw::case(&mut random))
             .collect();
-        let (port, reference) = commands.ask(&cases)?;
+        let (port, reference) = ask(programs, &cases)?;
         let (pairs, more) = by_case(&cases, &port, &reference);
         for (k, (case, (here, mut there))) in cases.iter().zip(pairs).enumerate() {
             if here != there {
@@ -218,7 +197,11 @@ fn compare(commands: &Commands, count: usize, seed: u64) -> Result<bool, String>
 }
 
 fn main() -> ExitCode {
-    let args: Vec<String> = std::env::args().skip(1).collect();
+    let mut args: Vec<String> = std::env::args().skip(1).collect();
+    let of_plans = args.first().is_some_and(|a| a == "plans");
+    if of_plans {
+        args.remove(0);
+    }
     let split = args.iter().position(|a| a == "--");
     let (Some(split), Some(Ok(count)), Some(Ok(seed))) = (
         split,
@@ -232,12 +215,17 @@ fn main() -> ExitCode {
         eprintln!("{USAGE}");
         return ExitCode::from(2);
     }
-    let commands = Commands {
+    let programs = Programs {
         folder: PathBuf::from(&args[2]),
         port: args[3..split].to_vec(),
         reference: args[split + 1..].to_vec(),
     };
-    match compare(&commands, count, seed) {
+    let done = if of_plans {
+        plans::compare(&programs, count, seed)
+    } else {
+        compare(&programs, count, seed)
+    };
+    match done {
         Ok(true) => ExitCode::SUCCESS,
         Ok(false) => ExitCode::from(1),
         Err(why) => {

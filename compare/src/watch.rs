@@ -1,14 +1,11 @@
 //! Counts what the cases met: each row of document 01's packet table by its outcome, open or closed, each refusal of each call, each edge of a block.
 //! It follows the packets by their lengths and takes the registers from the answers; it knows nothing of images but where blocks lie and the ID stands.
 
-use std::collections::BTreeMap;
-
 use crate::answer::Answer;
 use crate::case::{Beginning, Case, ID_PLACES};
+use crate::events::Events;
 
-/// What a run of the gate's length has to meet at least LEAST times.
-pub const LEAST: usize = 20;
-
+/// What a run of the gate's length has to meet.
 const WANTED: &[&str] = &[
     "start: refusal 0",
     "start: refusal 1",
@@ -117,7 +114,7 @@ enum Phase {
 
 #[derive(Default)]
 pub struct Watch {
-    counts: BTreeMap<String, usize>,
+    events: Events,
 }
 
 /// The block of an address and its place in the image.
@@ -149,7 +146,7 @@ fn length(command: u8, got: &[u8]) -> usize {
 
 impl Watch {
     fn note(&mut self, key: impl Into<String>) {
-        *self.counts.entry(key.into()).or_default() += 1;
+        self.events.note(key);
     }
 
     /// Follows a case by the answers that it got.
@@ -393,13 +390,6 @@ impl Watch {
 
     /// The table, and whether each wanted row was met often enough.
     pub fn report(&self) -> bool {
-        let mut enough = true;
-        for &key in WANTED {
-            let n = self.counts.get(key).copied().unwrap_or(0);
-            let mark = if n < LEAST { "  TOO FEW" } else { "" };
-            enough &= n >= LEAST;
-            println!("{n:>9}  {key}{mark}");
-        }
-        enough
+        self.events.report(WANTED)
     }
 }
