@@ -4,8 +4,22 @@ use crate::change::{begins_function, indent, lines};
 use std::path::Path;
 use std::process::Command;
 
-/// The crates whose definitions are changed, in the order of their proofs, and `demands`, which judges them.
-const CRATES: [&str; 6] = ["slices", "packets", "flash", "unit", "protocol", "demands"];
+/// The crates whose definitions are changed, in the order of their proofs, and those that judge them.
+const CRATES: [&str; 8] = [
+    "slices", "packets", "flash", "unit", "protocol", "rates", DEMANDS, PLANS,
+];
+
+const DEMANDS: &str = "demands";
+const PLANS: &str = "plans";
+
+/// The crate whose proof judges a change to a definition of this one.
+pub fn judge_of(name: &str) -> &'static str {
+    if name == "rates" {
+        PLANS
+    } else {
+        DEMANDS
+    }
+}
 
 fn told<T>(path: &Path, result: std::io::Result<T>) -> Result<T, String> {
     result.map_err(|e| format!("{}: {e}", path.display()))
@@ -92,7 +106,7 @@ fn without_functions(text: &str) -> String {
     kept.join("\n") + "\n"
 }
 
-/// A house in which only laws, tables and demands are proved, and where they are.
+/// A house in which only laws, tables, demands and plans are proved, and where they are.
 pub fn laws_only(root: &Path, to: &Path) -> Result<(), String> {
     told(to, std::fs::create_dir_all(to.join("crates")))?;
     for name in CRATES {
@@ -118,12 +132,13 @@ pub fn laws_only(root: &Path, to: &Path) -> Result<(), String> {
         .filter(|line| CRATES.iter().any(|c| line.split(':').next() == Some(c)))
         .collect();
     told(&list, std::fs::write(&list, kept.join("\n") + "\n"))?;
-    if check(to, "demands")? {
-        Ok(())
-    } else {
-        Err(format!(
-            "the laws alone are not proved: {}",
-            to.join("check.log").display()
-        ))
+    for judge in [DEMANDS, PLANS] {
+        if !check(to, judge)? {
+            return Err(format!(
+                "the laws alone are not proved: {}",
+                to.join("check.log").display()
+            ));
+        }
     }
+    Ok(())
 }

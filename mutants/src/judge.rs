@@ -50,7 +50,7 @@ fn tried(root: &Path, from: &Path, room: &Path, change: &Change) -> Result<Verdi
     if house::check(
         room,
         if change.laws_only {
-            "demands"
+            house::judge_of(&change.name)
         } else {
             &change.name
         },

@@ -73,7 +73,8 @@ fn say_unit(clock: Clock) {
     match clock {
         Clock::External(_) => say(b" Hz, "),
         _ => say(b" MHz, "),
-    };
+    }
+    ;
 }
 
 // The answer to a clock, which is named by this word, and a wanted rate.
@@ -98,7 +99,9 @@ fn ask_rate(word: &[u8], clock: Clock, rate: &[u8]) {
     match words::rate(rate) {
         RateWord::Given(n) => answer(word, clock, n),
         RateWord::TooLong => complain(b"plan: the rate has more than 15 digits\n"),
-        RateWord::NotANumber => complain(b"plan: the rate is not a whole number in decimal digits\n"),
+        RateWord::NotANumber => complain(
+            b"plan: the rate is not a whole number in decimal digits\n",
+        ),
     }
 }
 

@@ -94,7 +94,7 @@ module _ (f : Float) (rate k : ℕ) (w : ClockWithin f) (l : Listed rate) (h : k
   unfolding planAt
   at-plain = (
     plain (reachedAt f k) (reached-fits f k) (rounds-plus _ (reached-rounds f k w h)) (reached-most f k w h),
-    plain (farness f rate k) (distance-fits f rate k) (rounds-plus _ (distance-rounds f rate k w l h)) (distance-most f rate k w l h)
+    plain (farness f rate k) (distance-fits f rate k) (rounds-plus _ (distance-rounds f rate k w l h)) (distance-most f rate k w l h),
   )
 
 -- both floats of every answer

@@ -49,7 +49,7 @@ loop-again c = (omega arith, c .nearer .ensures ∙ rw (c .before .plan-at2 .ens
 
 -- src/lib.rt:90:1
 returns : tie.Need-returns Inv-loop μ-loop
-returns c = 
+returns c =
     let e : c .before .loop .k ≡ 255 = omega arith in
     c .before .loop .inv .1 ∙ rw e
 

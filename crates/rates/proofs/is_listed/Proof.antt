@@ -34,7 +34,7 @@ returns-5 c = simp (c .match .keys5)
 -- src/lib.rt:48:1
 returns-6 : tie.Need-returns-6
 unfolding isListed
-returns-6 c = 
+returns-6 c =
     let e = c .match .rest in
     simp (ne-eqb _ _ (e .1), ne-eqb _ _ (e .0 .1), ne-eqb _ _ (e .0 .0 .1), ne-eqb _ _ (e .0 .0 .0 .1), ne-eqb _ _ (e .0 .0 .0 .0 .1))
 
