@@ -10,7 +10,7 @@ use Rattle.rates.specs.declared.Clock.the-variants.{Fixed8, Fixed7, External}
 use Rattle.rates.specs.declared.Planned.{Planned}
 use Rattle.rates.specs.Clocks.{float, hertz, inRange, isTaken}
 use Rattle.rates.specs.Rates.{isListed, reachedAt, apart, planAt}
-use Rattle.rates.specs.Plans.{refusedWith, planned}
+use Rattle.rates.specs.Plans.{planned}
 use Rattle.rates.specs.Search.{nearer, bestUpTo, searched}
 use Rattle.rates.proofs.Answers.{searched-is}
 
@@ -27,9 +27,15 @@ row c rate a = record { clock = c; rate = rate; answer = a }
 abbrev at : ℕ → Clock
 at b = External (ofBits binary64 b)
 
--- a plan by its divider and the patterns of its reached rate and its distance
+-- an answer by its number, its divider and the patterns of its reached rate and its distance
+abbrev answered : ℕ → ℕ → ℕ → ℕ → Planned
+answered n k reached distance = record { refusal = n; plan = record { reached = ofBits binary64 reached; distance = ofBits binary64 distance; divider = k } }
+
 abbrev plan : ℕ → ℕ → ℕ → Planned
-plan k reached distance = record { refusal = 0; plan = record { reached = ofBits binary64 reached; distance = ofBits binary64 distance; divider = k } }
+plan = answered 0
+
+abbrev refused : ℕ → Planned
+refused n = answered n 0 0x0000000000000000 0x0000000000000000
 
 -- each row is planned so
 abbrev pub Holds : List Row → Type 0
@@ -77,19 +83,19 @@ external-hold = by-search external refl
 -- the refusals: the patterns next to the range, its ends, NaN, infinities, zeros, the smallest subnormal, a negative; rates next to listed ones; both at once
 unfoldable pub refusals : List Row
 refusals =
-    row (at 0x413E847FFFFFFFFF) 9600 (refusedWith 9)
-    ∷ row (at 0x417312D000000001) 9600 (refusedWith 9)
-    ∷ row (External nan) 9600 (refusedWith 9)
-    ∷ row (External (inf false)) 9600 (refusedWith 9)
-    ∷ row (External (inf true)) 9600 (refusedWith 9)
-    ∷ row (at 0x0000000000000000) 9600 (refusedWith 9)
-    ∷ row (at 0x8000000000000000) 9600 (refusedWith 9)
-    ∷ row (at 0x0000000000000001) 9600 (refusedWith 9)
-    ∷ row (at 0xC15E848000000000) 9600 (refusedWith 9)
-    ∷ row (External nan) 9601 (refusedWith 9)
-    ∷ row Fixed8 9601 (refusedWith 10)
-    ∷ row Fixed7 0 (refusedWith 10)
-    ∷ row (at 0x415E848000000000) 115199 (refusedWith 10)
+    row (at 0x413E847FFFFFFFFF) 9600 (refused 9)
+    ∷ row (at 0x417312D000000001) 9600 (refused 9)
+    ∷ row (External nan) 9600 (refused 9)
+    ∷ row (External (inf false)) 9600 (refused 9)
+    ∷ row (External (inf true)) 9600 (refused 9)
+    ∷ row (at 0x0000000000000000) 9600 (refused 9)
+    ∷ row (at 0x8000000000000000) 9600 (refused 9)
+    ∷ row (at 0x0000000000000001) 9600 (refused 9)
+    ∷ row (at 0xC15E848000000000) 9600 (refused 9)
+    ∷ row (External nan) 9601 (refused 9)
+    ∷ row Fixed8 9601 (refused 10)
+    ∷ row Fixed7 0 (refused 10)
+    ∷ row (at 0x415E848000000000) 115199 (refused 10)
     ∷ []
 
 pub refusals-hold : Holds refusals

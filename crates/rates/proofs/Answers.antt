@@ -14,9 +14,10 @@ use Rattle.rates.specs.declared.Plan.{Plan}
 use Rattle.rates.specs.declared.Planned.{Planned}
 use Rattle.rates.specs.Clocks.{float, hertz, inRange, isTaken}
 use Rattle.rates.specs.Rates.{rates, among, isListed, planAt, farness}
-use Rattle.rates.specs.Plans.{bestDivider, madePlan, refusedWith, planned}
+use Rattle.rates.specs.Plans.{bestDivider, plusZero, madePlan, refusedWith, planned}
 use Rattle.rates.specs.Search.{bestUpTo, searched}
-use Rattle.rates.specs.Nearest.{Nearest, Taken, Listed, Answer, plan-made, clock-refused, rate-refused}
+use Rattle.rates.specs.Nearest.{Nearest}
+use Rattle.rates.specs.Answers.{Taken, Listed, Refused, Answer, plan-made, clock-refused, rate-refused}
 use Rattle.rates.proofs.Tests.{holds, not-both}
 use Rattle.rates.proofs.Order.{Real, le-left-real}
 use Rattle.rates.proofs.Bounds.{ClockWithin, within, distance-most}
@@ -77,6 +78,21 @@ listed-back rate h = ⊎-elim (at 9600 refl) (⊎-elim (at 19200 refl) (⊎-elim
     at : (n : ℕ) → isListed n ≡ true → rate ≡ n → isListed rate ≡ true
     at n y e = ap isListed e ∙ y
 
+-- ---- the refused plan
+
+refused-so : (n : ℕ) → Refused n (refusedWith n)
+refused-so n = record { number = refl; no-rate = refl; no-distance = refl; no-divider = refl }
+
+pub refused-is : (n : ℕ) (a : Planned) → Refused n a → a ≡ refusedWith n
+refused-is n a r =
+    ap (λ (k : ℕ). answer k (a .plan .reached) (a .plan .distance) (a .plan .divider)) (r .number)
+    ∙ ap (λ (x : Float). answer n x (a .plan .distance) (a .plan .divider)) (r .no-rate)
+    ∙ ap (λ (x : Float). answer n plusZero x (a .plan .divider)) (r .no-distance)
+    ∙ ap (answer n plusZero plusZero) (r .no-divider)
+  where
+    answer : ℕ → Float → Float → ℕ → Planned
+    answer n x y k = record { refusal = n; plan = record { reached = x; distance = y; divider = k } }
+
 -- ---- the answer
 
 module _ (c : Clock) (rate : ℕ) where
@@ -129,17 +145,17 @@ module _ (c : Clock) (rate : ℕ) where
     where
       go : (t l : Bool) → isTaken c ≡ t → isListed rate ≡ l → Answer c rate (planned c rate)
       go true true t l = plan-made (taken c t) (listed rate l) (ap (λ (a : Planned). a .refusal) (is-made t l)) (made-nearest t l)
-      go true false t l = rate-refused (taken c t) (λ h. not-both (listed-back rate h) l) (sym (not-listed t l))
-      go false l t _ = clock-refused (λ h. not-both (taken-back c h) t) (sym (not-taken t))
+      go true false t l = rate-refused (taken c t) (λ h. not-both (listed-back rate h) l) (subst (Refused 10) (not-listed t l) (refused-so 10))
+      go false l t _ = clock-refused (λ h. not-both (taken-back c h) t) (subst (Refused 9) (not-taken t) (refused-so 9))
 
   no-other : (a : Planned) → Answer c rate a → a ≡ planned c rate
   no-other a (plan-made t l r n) = rebuilt a r ∙ made-is (taken-back c t) (listed-back rate l) (a .plan) n
-  no-other a (clock-refused t e) = e ∙ not-taken (no-taken (isTaken c) refl)
+  no-other a (clock-refused t r) = refused-is 9 a r ∙ not-taken (no-taken (isTaken c) refl)
     where
       no-taken : (b : Bool) → isTaken c ≡ b → b ≡ false
       no-taken true i = absurd (t (taken c i))
       no-taken false i = refl
-  no-other a (rate-refused t l e) = e ∙ not-listed (taken-back c t) (no-listed (isListed rate) refl)
+  no-other a (rate-refused t l r) = refused-is 10 a r ∙ not-listed (taken-back c t) (no-listed (isListed rate) refl)
     where
       no-listed : (b : Bool) → isListed rate ≡ b → b ≡ false
       no-listed true i = absurd (l (listed rate i))

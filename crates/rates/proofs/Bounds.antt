@@ -17,7 +17,7 @@ use lib.Ieee.Order.{round-mono}
 use lib.Ieee.Positive.{num, den, positive, den-pos, own-value, value→cross, positive-of-value, value-pos, le→cross, values-of-le, between}
 use Rattle.rates.specs.Clocks.{float}
 use Rattle.rates.specs.Rates.{reachedAt, apart, planAt, farness}
-use Rattle.rates.specs.Nearest.{Listed}
+use Rattle.rates.specs.Answers.{Listed}
 use Rattle.rates.proofs.Tests.{holds, fails}
 use Rattle.rates.proofs.Order.{Real, lt→le, not-lt→le}
 

@@ -16,12 +16,12 @@ use Rattle.rates.specs.declared.Planned.{Planned}
 use Rattle.rates.specs.Clocks.{float, hertz}
 use Rattle.rates.specs.Rates.{reachedAt, apart, planAt, farness}
 use Rattle.rates.specs.Plans.{plusZero, refusedWith, planned}
-use Rattle.rates.specs.Nearest.{Listed, Answer, plan-made, clock-refused, rate-refused}
+use Rattle.rates.specs.Answers.{Listed, Answer, plan-made, clock-refused, rate-refused}
 use Rattle.rates.specs.Floats.{Plain}
 use Rattle.rates.proofs.Tests.{holds}
 use Rattle.rates.proofs.Order.{Real, le-left-real}
 use Rattle.rates.proofs.Bounds.{ClockWithin, float-value, Rounds, reached-least, reached-most, reached-rounds, distance-most, distance-rounds}
-use Rattle.rates.proofs.Answers.{plans-exactly, clock-within, taken-back}
+use Rattle.rates.proofs.Answers.{refused-is, plans-exactly, clock-within, taken-back}
 
 -- plus, or a plus infinity
 abbrev Plus : Float → Type 0
@@ -106,8 +106,8 @@ answer-plain c rate = go (planned c rate) (plans-exactly c rate (planned c rate)
 
     go : (a : Planned) → Answer c rate a → Plain (a .plan .reached) × Plain (a .plan .distance)
     go a (plan-made t l r n) = both _ _ (n .own) (at-plain (hertz c) rate (a .plan .divider) (clock-within c (taken-back c t)) l (n .divides))
-    go a (clock-refused t e) = both _ _ (ap (λ (x : Planned). x .plan) e) (zero-plain, zero-plain)
-    go a (rate-refused t l e) = both _ _ (ap (λ (x : Planned). x .plan) e) (zero-plain, zero-plain)
+    go a (clock-refused t r) = both _ _ (ap (λ (x : Planned). x .plan) (refused-is 9 a r)) (zero-plain, zero-plain)
+    go a (rate-refused t l r) = both _ _ (ap (λ (x : Planned). x .plan) (refused-is 10 a r)) (zero-plain, zero-plain)
 
 pub plain-real : (x : Float) → Plain x → Real x
 plain-real x p = le-left-real x (float 1250000) (holds (p .most))

@@ -1,6 +1,8 @@
 -- The two fixed words are tried first; any other is a number.
-use mathlib.Core.Path.{sym, _∙_}
-use Rattle.words.specs.Words.{clockWord}
+use mathlib.Core.Path.{sym, ap, _∙_}
+use Rattle.words.specs.declared.Reading.{Reading}
+use Rattle.words.specs.Words.{clockIn}
+use Rattle.words.proofs.Texts.{word-8, word-7, word-number}
 use borrow.Author.Needs.{needs}
 use Rattle.words.proofs.clock.Statement.{statement}
 use Rattle.words.proofs.clock.Tie as tie
@@ -20,8 +22,7 @@ is-same-requires c κs = search needs
 
 -- src/lib.rt:170:9
 returns : tie.Need-returns
-unfolding clockWord
-returns c = rw (sym (c .before .is-same .ensures) ∙ c .if1 .taken)
+returns c = word-8 _ (sym (c .before .is-same .ensures) ∙ c .if1 .taken)
 
 -- src/lib.rt:172:30
 slice-aggregate-is-same-2 : tie.Need-slice-aggregate-is-same-2
@@ -33,8 +34,7 @@ is-same-requires-2 c κs = search needs
 
 -- src/lib.rt:173:9
 returns-2 : tie.Need-returns-2
-unfolding clockWord
-returns-2 c = rw (sym (c .before .before .before .before .is-same .ensures) ∙ c .before .before .before .if1 .left, sym (c .before .is-same2 .ensures) ∙ c .if2 .taken)
+returns-2 c = word-7 _ (sym (c .before .before .before .before .is-same .ensures) ∙ c .before .before .before .if1 .left) (sym (c .before .is-same2 .ensures) ∙ c .if2 .taken)
 
 -- src/lib.rt:175:9
 read-requires : tie.Need-read-requires
@@ -46,11 +46,11 @@ clock-in-requires c κs = search needs
 
 -- src/lib.rt:166:1
 returns-3 : tie.Need-returns-3
-unfolding clockWord
 returns-3 c =
     let d = c .before .before in
     c .clock-in .ensures
-    ∙ rw (sym (d .before .before .before .before .is-same .ensures) ∙ d .before .before .before .if1 .left, sym (d .before .is-same2 .ensures) ∙ d .if2 .left, c .before .read .ensures)
+    ∙ ap (λ (r : Reading). clockIn (r .state) r) (c .before .read .ensures)
+    ∙ word-number _ (sym (d .before .before .before .before .is-same .ensures) ∙ d .before .before .before .if1 .left) (sym (d .before .is-same2 .ensures) ∙ d .if2 .left)
 
 pub clock-spec : {M : Type 1} → statement M
 clock-spec =
