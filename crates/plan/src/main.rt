@@ -69,12 +69,16 @@ fn say_plan(plan: Plan, rate: u32) {
     }
 }
 
+// A fixed clock is named in megahertz.
 fn say_unit(clock: Clock) {
     match clock {
-        Clock::External(_) => say(b" Hz, "),
-        _ => say(b" MHz, "),
+        Clock::External(_) => {
+            say(b" Hz, ");
+        }
+        _ => {
+            say(b" MHz, ");
+        }
     }
-    ;
 }
 
 // The answer to a clock, which is named by this word, and a wanted rate.

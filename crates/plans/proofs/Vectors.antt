@@ -1,10 +1,10 @@
 -- Plans bit for bit, computed by way of the search, which is what the rule plans. The patterns are those of an IEEE calculation made apart from this project's code
 -- and checked by exact fractions; 0x402EC4EC4EC4EC00, the distance for 8 MHz and 9600, is 15.38 hertz.
-use mathlib.Core.Path.{_≡_, refl, sym, ap, _∙_}
+use mathlib.Core.Path.{_≡_, refl, sym, _∙_}
 use Prim.Native.Nat.{ℕ}
 use mathlib.Core.Bool.{false, true}
 use mathlib.Core.List.{List, [], _∷_, map}
-use lib.Ieee.{Float, nan, inf, binary64, div, sub, lt, le, ofInt, ofBits}
+use lib.Ieee.{nan, inf, binary64, div, sub, lt, le, ofInt, ofBits}
 use Rattle.rates.specs.declared.Clock.{Clock}
 use Rattle.rates.specs.declared.Clock.the-variants.{Fixed8, Fixed7, External}
 use Rattle.rates.specs.declared.Planned.{Planned}

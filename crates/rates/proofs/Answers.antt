@@ -1,19 +1,19 @@
 -- The answer to any clock and any rate is what Item 7's words ask, and nothing else is: the two tests are those words, and where both hold the plan is the one nearest.
 use mathlib.Core.Path.{_≡_, refl, sym, ap, _∙_, subst}
 use mathlib.Core.Logic.{_⊎_, inl, inr, ⊎-elim, _↔_}
-use mathlib.Core.Bool.{Bool, true, false, _&&_, _||_, cond}
+use mathlib.Core.Bool.{Bool, true, false, _||_, cond}
 use Prim.Native.Nat.{ℕ, _≤_}
 use lib.Dec.{eqb, lit≤}
 use lib.Ieee.{Float, le, ofInt}
 use lib.Ieee.Bits.{is-true}
 use lib.Ieee.Fits.{and-i, and-l, and-r}
-use borrow.Author.Tests.{eqb-true, eq-eqb}
+use borrow.Author.Tests.{eqb-true}
 use Rattle.rates.specs.declared.Clock.{Clock}
 use Rattle.rates.specs.declared.Clock.the-variants.{Fixed8, Fixed7, External}
 use Rattle.rates.specs.declared.Plan.{Plan}
 use Rattle.rates.specs.declared.Planned.{Planned}
 use Rattle.rates.specs.Clocks.{float, hertz, inRange, isTaken}
-use Rattle.rates.specs.Rates.{rates, among, isListed, planAt, farness}
+use Rattle.rates.specs.Rates.{isListed, planAt, farness}
 use Rattle.rates.specs.Plans.{bestDivider, plusZero, madePlan, refusedWith, planned}
 use Rattle.rates.specs.Search.{bestUpTo, searched}
 use Rattle.rates.specs.Nearest.{Nearest}
@@ -21,7 +21,6 @@ use Rattle.rates.specs.Answers.{Taken, Listed, Refused, Answer, plan-mad
 use Rattle.rates.proofs.Tests.{holds, not-both}
 use Rattle.rates.proofs.Order.{Real, le-left-real}
 use Rattle.rates.proofs.Bounds.{ClockWithin, within, distance-most}
-use Rattle.rates.proofs.Least.{only}
 use Rattle.rates.proofs.Chosen.{nearest-is, search-finds, chosen-nearest}
 
 -- ---- the clock

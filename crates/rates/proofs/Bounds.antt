@@ -7,12 +7,10 @@ use Prim.Native.Nat.{ℕ, _+_, _-_, _*_, _^_, _≤_, _<_}
 use native.Mathlib.Nat.{mul-assoc, mul-comm, mul-left-comm, mul-le-mul-right, mul-pos}
 use native.Mathlib.Omega.{arith}
 use borrow.Author.Tests.{ne-eqb, le-ltb}
-use lib.Dec.{T, ltb, eqb, ltb→lt, lit≤}
-use lib.IntN.{ℤ}
+use lib.Dec.{T, eqb, ltb→lt, lit≤}
 use lib.Ieee.{Float, nan, inf, fin, binary64, up, down, round, sum, sub, div, lt, le, ofInt, isNan}
 use lib.Ieee.Exact.{HasValue}
 use lib.Ieee.Back.{round-whole}
-use lib.Ieee.Fits.{up-pos}
 use lib.Ieee.Order.{round-mono}
 use lib.Ieee.Positive.{num, den, positive, den-pos, own-value, value→cross, positive-of-value, value-pos, le→cross, values-of-le, between}
 use Rattle.rates.specs.Clocks.{float}

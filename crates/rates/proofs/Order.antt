@@ -1,9 +1,9 @@
 -- The order of floats, as far as a search for the least of a row needs it. Two finite floats compare as their fractions do, by cross products; an infinity lies
 -- beyond all of them, and a NaN compares with nothing. lib.Ieee has such laws for values above zero alone; these hold for zeros, both signs and infinities.
-use mathlib.Core.Path.{_≡_, refl, sym, ap, _∙_, subst}
+use mathlib.Core.Path.{_≡_, sym, subst}
 use mathlib.Core.Logic.{⊎-elim}
 use mathlib.Core.Bool.{Bool, true, false, not, _&&_, _||_, Bool·beq}
-use Prim.Native.Nat.{ℕ, zero, suc, _+_, _*_, _≤_, _<_}
+use Prim.Native.Nat.{ℕ, zero, _+_, _*_, _≤_, _<_}
 use native.Mathlib.Nat.{lt-of-lt-of-le, lt-of-le-of-lt, le-of-eq, mul-right-comm, mul-pos, mul-le-mul-right, mul-lt-mul-of-pos-right, lt-of-mul-lt-mul-right, eq-zero-or-pos}
 use native.Mathlib.Omega.{arith}
 use lib.Dec.{T, T-not, ltb, eqb, ltb→lt, lt→ltb, nltb→le, eqb→eq}

@@ -1,26 +1,23 @@
 -- Every float of an answer is finite, not negative and the value of exactly one bit pattern: it is +0, or one of `Bounds`, and what an operation rounds is a value of the format.
 use mathlib.Core.Path.{_≡_, refl, sym, ap, _∙_, subst}
-use mathlib.Core.Bool.{Bool, true, false, not, cond}
-use Prim.Native.Nat.{ℕ, _+_, _-_, _*_, _/_, _%_, _^_, _≤_, _<_, compare}
-use native.Mathlib.Omega.{arith}
+use mathlib.Core.Bool.{Bool, true, false, cond}
+use Prim.Native.Nat.{ℕ, _+_, _-_, _*_, _/_, _%_, _^_, _≤_, compare}
 use lib.Dec.{T, ltb, lit≤}
-use lib.IntN.{pos}
-use lib.Ieee.{Float, nan, inf, fin, binary64, prec, low, size, nearest, odd, units, round, sub, div, lt, le, isNan, fits, ofInt, ofBits, toBits}
+use lib.Ieee.{Float, nan, inf, fin, binary64, prec, low, size, nearest, odd, units, round, sub, div, lt, le, fits, ofInt, ofBits, toBits}
 use lib.Ieee.Bits.{is-true, ofBits-toBits, toBits-lt, toBits-ofBits}
 use lib.Ieee.Exact.{HasValue, odd-sign}
 use lib.Ieee.Fits.{cond-fits, sub-fits, div-fits}
-use lib.Ieee.Positive.{positive}
 use Rattle.rates.specs.declared.Clock.{Clock}
 use Rattle.rates.specs.declared.Plan.{Plan}
 use Rattle.rates.specs.declared.Planned.{Planned}
 use Rattle.rates.specs.Clocks.{float, hertz}
 use Rattle.rates.specs.Rates.{reachedAt, apart, planAt, farness}
-use Rattle.rates.specs.Plans.{plusZero, refusedWith, planned}
+use Rattle.rates.specs.Plans.{plusZero, planned}
 use Rattle.rates.specs.Answers.{Listed, Answer, plan-made, clock-refused, rate-refused}
 use Rattle.rates.specs.Floats.{Plain}
 use Rattle.rates.proofs.Tests.{holds}
 use Rattle.rates.proofs.Order.{Real, le-left-real}
-use Rattle.rates.proofs.Bounds.{ClockWithin, float-value, Rounds, reached-least, reached-most, reached-rounds, distance-most, distance-rounds}
+use Rattle.rates.proofs.Bounds.{ClockWithin, float-value, Rounds, reached-most, reached-rounds, distance-most, distance-rounds}
 use Rattle.rates.proofs.Answers.{refused-is, plans-exactly, clock-within, taken-back}
 
 -- plus, or a plus infinity

@@ -4,7 +4,6 @@ use Prim.Native.String.{String}
 use mathlib.Core.List.{List, [], _∷_, map}
 use lib.Ieee.{binary64, div, ofInt, ofBits}
 use Rattle.lines.specs.Ascii.{ascii}
-use Rattle.slices.specs.Lists.{same}
 use Rattle.rates.specs.declared.Clock.the-variants.{Fixed8, Fixed7, External}
 use Rattle.rates.specs.Clocks.{float}
 use Rattle.words.specs.declared.ClockWord.{ClockWord}

@@ -5,7 +5,6 @@ use mathlib.Core.List.{List}
 use lib.Ieee.{binary64, div}
 use Rattle.slices.specs.Lists.{same}
 use Rattle.lines.specs.Ascii.{ascii}
-use Rattle.rates.specs.declared.Clock.{Clock}
 use Rattle.rates.specs.declared.Clock.the-variants.{Fixed8, Fixed7, External}
 use Rattle.rates.specs.Clocks.{float}
 use Rattle.words.specs.declared.Reading.{Reading}
