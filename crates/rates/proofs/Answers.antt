@@ -14,7 +14,7 @@ use Rattle.rates.specs.declared.Plan.{Plan}
 use Rattle.rates.specs.declared.Planned.{Planned}
 use Rattle.rates.specs.Clocks.{float, hertz, inRange, isTaken}
 use Rattle.rates.specs.Rates.{isListed, planAt, farness}
-use Rattle.rates.specs.Plans.{bestDivider, plusZero, madePlan, refusedWith, planned}
+use Rattle.rates.specs.Plans.{bestDivider, plusZero, madePlan, refusedWith, answerWith, planned}
 use Rattle.rates.specs.Search.{bestUpTo, searched}
 use Rattle.rates.specs.Nearest.{Nearest}
 use Rattle.rates.specs.Answers.{Taken, Listed, Refused, Answer, plan-made, clock-refused, rate-refused}
@@ -100,29 +100,29 @@ module _ (c : Clock) (rate : ℕ) where
     all-real j h = le-left-real (farness (hertz c) rate j) (float 1250000) (distance-most (hertz c) rate j (clock-within c t) (listed rate l) h)
 
     is-made : planned c rate ≡ madePlan (planAt (hertz c) rate (bestDivider (hertz c) rate))
-    unfolding planned
+    unfolding planned answerWith
     is-made = rw (t, l)
 
     -- what the code's search finds is answered
     pub made : (p : Plan) → p ≡ bestUpTo (hertz c) rate 255 → madePlan p ≡ planned c rate
     made p e = ap madePlan (e ∙ search-finds (hertz c) rate all-real) ∙ sym is-made
 
-    made-is : (p : Plan) → Nearest (hertz c) rate p → madePlan p ≡ planned c rate
+    made-is : (p : Plan) → Nearest (hertz c) rate 255 p → madePlan p ≡ planned c rate
     made-is p n = ap madePlan (nearest-is (hertz c) rate p n) ∙ sym is-made
 
-    made-nearest : Nearest (hertz c) rate (planned c rate .plan)
-    made-nearest = subst (λ (a : Planned). Nearest (hertz c) rate (a .plan)) (sym is-made) (chosen-nearest (hertz c) rate all-real)
+    made-nearest : Nearest (hertz c) rate 255 (planned c rate .plan)
+    made-nearest = subst (λ (a : Planned). Nearest (hertz c) rate 255 (a .plan)) (sym is-made) (chosen-nearest (hertz c) rate all-real)
 
   pub not-listed : isTaken c ≡ true → isListed rate ≡ false → refusedWith 10 ≡ planned c rate
-  unfolding planned
+  unfolding planned answerWith
   not-listed t l = rw (t, l)
 
   pub not-taken : isTaken c ≡ false → refusedWith 9 ≡ planned c rate
-  unfolding planned
+  unfolding planned answerWith
   not-taken t = rw t
 
   pub searched-is : searched c rate ≡ planned c rate
-  unfolding searched
+  unfolding searched answerWith
   searched-is = go (isTaken c) (isListed rate) refl refl
     where
       go : (t l : Bool) → isTaken c ≡ t → isListed rate ≡ l
@@ -131,9 +131,9 @@ module _ (c : Clock) (rate : ℕ) where
       go true false t l = not-listed t l
       go false l t _ = not-taken t
 
-  -- F5: a fixed clock and an external one of the same frequency have the same answer
+  -- a fixed clock and an external one of the same frequency have the same answer
   pub as-external : planned c rate ≡ planned (External (hertz c)) rate
-  unfolding planned isTaken hertz
+  unfolding planned answerWith isTaken hertz
   as-external = rw (taken-in-range c)
 
   rebuilt : (a : Planned) → a .refusal ≡ 0 → a ≡ madePlan (a .plan)

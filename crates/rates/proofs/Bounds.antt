@@ -184,11 +184,11 @@ reached-rounds f k w h =
 
 -- the distance, by which of the two rates is the greater
 module _ (f : Float) (rate k : ℕ) (w : ClockWithin f) (l : Listed rate) (h : k ≤ 255) where
-  here : Within 488 1250000 (reachedAt f k)
-  here = within 488 1250000 (reachedAt f k) (lit≤ tt) (lit≤ tt) (lit≤ tt) (reached-least f k w h) (reached-most f k w h)
+  reached-within : Within 488 1250000 (reachedAt f k)
+  reached-within = within 488 1250000 (reachedAt f k) (lit≤ tt) (lit≤ tt) (lit≤ tt) (reached-least f k w h) (reached-most f k w h)
 
-  there : Within 9600 115200 (float rate)
-  there = rate-within rate l
+  wanted-within : Within 9600 115200 (float rate)
+  wanted-within = rate-within rate l
 
   distance-is : (P : Float → Type 0)
       → (T (le (reachedAt f k) (float rate)) → P (sub binary64 (float rate) (reachedAt f k)))
@@ -200,16 +200,16 @@ module _ (f : Float) (rate k : ℕ) (w : ClockWithin f) (l : Listed rate) (h : k
       go : (b : Bool) → lt (reachedAt f k) (float rate) ≡ b → P (cond b (sub binary64 (float rate) (reachedAt f k)) (sub binary64 (reachedAt f k) (float rate)))
       go true e = under (lt→le (reachedAt f k) (float rate) (holds e))
       go false e =
-          over (not-lt→le (float rate) (reachedAt f k) (positive-real (float rate) (there .above-zero)) (positive-real (reachedAt f k) (here .above-zero)) (fails e))
+          over (not-lt→le (float rate) (reachedAt f k) (positive-real (float rate) (wanted-within .above-zero)) (positive-real (reachedAt f k) (reached-within .above-zero)) (fails e))
 
   pub distance-most : T (le (farness f rate k) (float 1250000))
   distance-most =
       distance-is (λ (x : Float). T (le x (float 1250000)))
-      (λ g. sub-most (float rate) (reachedAt f k) (there .above-zero) (here .above-zero) g 1250000 (let m : num (float rate) ≤ 115200 * den (float rate) = there .most in omega arith))
-      (λ g. sub-most (reachedAt f k) (float rate) (here .above-zero) (there .above-zero) g 1250000 (here .most))
+      (λ g. sub-most (float rate) (reachedAt f k) (wanted-within .above-zero) (reached-within .above-zero) g 1250000 (let m : num (float rate) ≤ 115200 * den (float rate) = wanted-within .most in omega arith))
+      (λ g. sub-most (reachedAt f k) (float rate) (reached-within .above-zero) (wanted-within .above-zero) g 1250000 (reached-within .most))
 
   pub distance-rounds : Rounds (farness f rate k)
   distance-rounds =
       distance-is Rounds
-      (sub-rounds (float rate) (reachedAt f k) (there .above-zero) (here .above-zero))
-      (sub-rounds (reachedAt f k) (float rate) (here .above-zero) (there .above-zero))
+      (sub-rounds (float rate) (reachedAt f k) (wanted-within .above-zero) (reached-within .above-zero))
+      (sub-rounds (reachedAt f k) (float rate) (reached-within .above-zero) (wanted-within .above-zero))

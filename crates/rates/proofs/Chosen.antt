@@ -46,7 +46,7 @@ module _ (f : Float) (rate : ℕ) where
           let g : k < d = leb-false d k e in
           rw (not-before k g, later g)
 
-  module _ (p : Plan) (n : Nearest f rate p) where
+  module _ (p : Plan) (n : Nearest f rate 255 p) where
     own-distance : farness f rate (p .divider) ≡ p .distance
     own-distance = ap (λ (x : Plan). x .distance) (sym (n .own))
 
@@ -69,12 +69,16 @@ module _ (f : Float) (rate : ℕ) where
     unfolding bestDivider
     best-divider = first-is (p .divider) 255 zero is-least no-smaller (omega arith) (n .divides)
 
-  pub nearest-is : (p : Plan) → Nearest f rate p → p ≡ planAt f rate (bestDivider f rate)
+  pub nearest-is : (p : Plan) → Nearest f rate 255 p → p ≡ planAt f rate (bestDivider f rate)
   nearest-is p n = n .own ∙ ap (planAt f rate) (sym (best-divider p n))
+
+  -- no second plan is nearest
+  pub only : (p q : Plan) → Nearest f rate 255 p → Nearest f rate 255 q → p ≡ q
+  only p q m n = nearest-is p m ∙ sym (nearest-is q n)
 
   module _ (real : (j : ℕ) → j ≤ 255 → Real (farness f rate j)) where
     pub search-finds : bestUpTo f rate 255 ≡ planAt f rate (bestDivider f rate)
-    search-finds = nearest-is (bestUpTo f rate 255) (search-nearest f rate real)
+    search-finds = nearest-is (bestUpTo f rate 255) (search-nearest f rate 255 real)
 
-    pub chosen-nearest : Nearest f rate (planAt f rate (bestDivider f rate))
-    chosen-nearest = subst (Nearest f rate) search-finds (search-nearest f rate real)
+    pub chosen-nearest : Nearest f rate 255 (planAt f rate (bestDivider f rate))
+    chosen-nearest = subst (Nearest f rate 255) search-finds (search-nearest f rate 255 real)

@@ -3,12 +3,13 @@
 use mathlib.Core.Path.{_≡_, sym, subst}
 use mathlib.Core.Logic.{⊎-elim}
 use mathlib.Core.Bool.{Bool, true, false, not, _&&_, _||_, Bool·beq}
-use Prim.Native.Nat.{ℕ, zero, _+_, _*_, _≤_, _<_}
+use Prim.Native.Nat.{ℕ, _+_, _*_, _≤_, _<_}
 use native.Mathlib.Nat.{lt-of-lt-of-le, lt-of-le-of-lt, le-of-eq, mul-right-comm, mul-pos, mul-le-mul-right, mul-lt-mul-of-pos-right, lt-of-mul-lt-mul-right, eq-zero-or-pos}
 use native.Mathlib.Omega.{arith}
 use lib.Dec.{T, T-not, ltb, eqb, ltb→lt, lt→ltb, nltb→le, eqb→eq}
 use lib.Arith.{le→nltb}
 use lib.Ieee.{Float, nan, inf, fin, up, down, below, level, lt, le, eq, isNan}
+use lib.Ieee.Positive.{first-pos}
 use lib.Ieee.Fits.{down-pos, and-i, and-l, and-r, eq→eqb}
 
 -- not a NaN
@@ -21,10 +22,10 @@ chain x y z d e g D E G h k =
     lt-of-mul-lt-mul-right d
     (lt-of-le-of-lt (le-of-eq (mul-right-comm x g d))
     (lt-of-lt-of-le (mul-lt-mul-of-pos-right h G)
-    (lt-of-le-of-lt' (mul-right-comm z e g) (mul-le-mul-right e k) (mul-right-comm y d e))))
+    (le-through (mul-right-comm z e g) (mul-le-mul-right e k) (mul-right-comm y d e))))
   where
-    lt-of-le-of-lt' : {a b c f : ℕ} → a ≡ b → b ≤ c → c ≡ f → a ≤ f
-    lt-of-le-of-lt' p q r = omega arith
+    le-through : {a b c f : ℕ} → a ≡ b → b ≤ c → c ≡ f → a ≤ f
+    le-through p q r = omega arith
 
 -- the same from the other end: y / g ≤ z / d < x / e
 chain′ : (x y z d e g : ℕ) → 0 < d → 0 < e → 0 < g → z * e < x * d → y * d ≤ z * g → y * e < x * g
@@ -34,19 +35,16 @@ chain′ x y z d e g D E G h k =
     joins : {a b c p q r : ℕ} → a ≡ b → b ≤ c → c ≡ p → p < q → q ≡ r → a < r
     joins f g′ h′ k′ l = omega arith
 
-no-zero : (x d : ℕ) → x ≡ 0 → x * d ≡ 0
-no-zero x d e = subst (λ (y : ℕ). y * d ≡ 0) (sym e) (zero-times d)
+zero-product : (x d : ℕ) → x ≡ 0 → x * d ≡ 0
+zero-product x d e = subst (λ (y : ℕ). y * d ≡ 0) (sym e) (zero-times d)
   where
     zero-times : (d : ℕ) → 0 * d ≡ 0
     zero-times d = omega arith
 
-first-pos : (x d : ℕ) → 0 < x * d → 0 < x
-first-pos x d h = ⊎-elim (λ e. let z = no-zero x d e in omega arith) (λ p. p) (eq-zero-or-pos x)
-
 zero-of : (x d : ℕ) → 0 < d → x * d ≡ 0 → x ≡ 0
 zero-of x d D e = ⊎-elim (λ z. z) (λ p. let q = mul-pos p D in absurd (omega arith)) (eq-zero-or-pos x)
 
--- the signed case
+-- ±x / e < ±z / d and not ±y / g < ±z / d: ±x / e < ±y / g
 over : (s t u : Bool) (x y z d e g : ℕ) → 0 < d → 0 < e → 0 < g → T (below s (x * d) t (z * e)) → T (not (below u (y * d) t (z * g))) → T (below s (x * g) u (y * e))
 over false true u x y z d e g D E G h k = absurd h
 over false false false x y z d e g D E G h k =
@@ -55,7 +53,7 @@ over false false true x y z d e g D E G h k =
     let a : x * d < z * e = ltb→lt (x * d) (z * e) h in
     let b : y * d + z * g ≤ 0 = nltb→le 0 (y * d + z * g) k in
     let c : z ≡ 0 = zero-of z g G (omega arith) in
-    let f : z * e ≡ 0 = no-zero z e c in
+    let f : z * e ≡ 0 = zero-product z e c in
     absurd (omega arith)
 over true false false x y z d e g D E G h k =
     let a : 0 < x * d + z * e = ltb→lt 0 (x * d + z * e) h in
@@ -63,7 +61,7 @@ over true false false x y z d e g D E G h k =
     lt→ltb 0 (x * g + y * e)
     (⊎-elim
     (λ xz.
-    let p : x * d ≡ 0 = no-zero x d xz in
+    let p : x * d ≡ 0 = zero-product x d xz in
     let q : 0 < z = first-pos z e (omega arith) in
     let r : 0 < z * g = mul-pos q G in
     let v : 0 < y = first-pos y d (omega arith) in
@@ -76,9 +74,9 @@ over true false true x y z d e g D E G h k =
     let b : y * d + z * g ≤ 0 = nltb→le 0 (y * d + z * g) k in
     let y0 : y ≡ 0 = zero-of y d D (omega arith) in
     let z0 : z ≡ 0 = zero-of z g G (omega arith) in
-    let p : z * e ≡ 0 = no-zero z e z0 in
+    let p : z * e ≡ 0 = zero-product z e z0 in
     let q : 0 < x * g = mul-pos (first-pos x d (omega arith)) G in
-    let r : y * e ≡ 0 = no-zero y e y0 in
+    let r : y * e ≡ 0 = zero-product y e y0 in
     lt→ltb (y * e) (x * g) (omega arith)
 over true true false x y z d e g D E G h k =
     let a : z * e < x * d = ltb→lt (z * e) (x * d) h in
@@ -117,16 +115,10 @@ lt-below (fin s m e) (fin u p g) (fin t m′ d) h k n =
     over s t u (m * up e) (p * up g) (m′ * up d) (down d) (down e) (down g) (down-pos d) (down-pos e) (down-pos g) h k
 
 flips : (s t : Bool) (a b : ℕ) → T (below s a t b) → T (not (below t b s a))
-flips false false a b h = le→nltb b a (le-of (ltb→lt a b h))
-  where
-    le-of : {a b : ℕ} → a < b → a ≤ b
-    le-of p = omega arith
+flips false false a b h = le→nltb b a (let l : a < b = ltb→lt a b h in omega arith)
 flips false true a b h = absurd h
 flips true false a b h = tt
-flips true true a b h = le→nltb a b (le-of (ltb→lt b a h))
-  where
-    le-of : {a b : ℕ} → a < b → a ≤ b
-    le-of p = omega arith
+flips true true a b h = le→nltb a b (let l : b < a = ltb→lt b a h in omega arith)
 
 lt-asym : (x y : Float) → T (lt x y) → T (not (lt y x))
 unfolding lt

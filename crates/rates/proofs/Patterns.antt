@@ -3,7 +3,7 @@ use mathlib.Core.Path.{_≡_, refl, sym, ap, _∙_, subst}
 use mathlib.Core.Bool.{Bool, true, false, cond}
 use Prim.Native.Nat.{ℕ, _+_, _-_, _*_, _/_, _%_, _^_, _≤_, compare}
 use lib.Dec.{T, ltb, lit≤}
-use lib.Ieee.{Float, nan, inf, fin, binary64, prec, low, size, nearest, odd, units, round, sub, div, lt, le, fits, ofInt, ofBits, toBits}
+use lib.Ieee.{Float, nan, inf, fin, binary64, prec, low, size, nearest, odd, units, round, sub, div, lt, le, fits, ofInt, toBits}
 use lib.Ieee.Bits.{is-true, ofBits-toBits, toBits-lt, toBits-ofBits}
 use lib.Ieee.Exact.{HasValue, odd-sign}
 use lib.Ieee.Fits.{cond-fits, sub-fits, div-fits}

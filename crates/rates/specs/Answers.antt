@@ -30,6 +30,6 @@ pub record Refused (n : ℕ) (a : Planned) : Type 0 where
 
 -- the answer to a clock and a wanted rate
 pub data Answer (c : Clock) (rate : ℕ) (a : Planned) : Type 0 where
-  plan-made : Taken c → Listed rate → a .refusal ≡ 0 → Nearest (hertz c) rate (a .plan) → Answer c rate a
+  plan-made : Taken c → Listed rate → a .refusal ≡ 0 → Nearest (hertz c) rate 255 (a .plan) → Answer c rate a
   clock-refused : (Taken c → ⊥) → Refused 9 a → Answer c rate a
   rate-refused : Taken c → (Listed rate → ⊥) → Refused 10 a → Answer c rate a

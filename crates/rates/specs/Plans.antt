@@ -23,7 +23,7 @@ atMostAll f rate d (suc k) = atMostAll f rate d k && le d (farness f rate (suc k
 unfoldable pub isLeast : Float → ℕ → ℕ → Bool
 isLeast f rate k = atMostAll f rate (farness f rate k) maxDivider
 
--- the first divider from k on that has it, of n more
+-- the first divider from k on that has it; where none of n dividers has it, the one after them
 unfoldable pub firstLeast : Float → ℕ → ℕ → ℕ → ℕ
 firstLeast f rate zero k = k
 firstLeast f rate (suc n) k = cond (isLeast f rate k) k (firstLeast f rate n (suc k))
@@ -42,7 +42,9 @@ refusedWith n = record { refusal = n; plan = record { reached = plusZero; distan
 abbrev pub madePlan : Plan → Planned
 madePlan p = record { refusal = 0; plan = p }
 
--- what is answered to a clock and a wanted rate
+-- the answer to a clock and a wanted rate, where this is the plan if one is made
+unfoldable pub answerWith : Clock → ℕ → Plan → Planned
+answerWith c rate p = cond (isTaken c) (cond (isListed rate) (madePlan p) (refusedWith 10)) (refusedWith 9)
+
 unfoldable pub planned : Clock → ℕ → Planned
-planned c rate =
-    cond (isTaken c) (cond (isListed rate) (madePlan (planAt (hertz c) rate (bestDivider (hertz c) rate))) (refusedWith 10)) (refusedWith 9)
+planned c rate = answerWith c rate (planAt (hertz c) rate (bestDivider (hertz c) rate))

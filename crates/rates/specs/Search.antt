@@ -6,9 +6,9 @@ use lib.Ieee.{Float, lt}
 use Rattle.rates.specs.declared.Clock.{Clock}
 use Rattle.rates.specs.declared.Plan.{Plan}
 use Rattle.rates.specs.declared.Planned.{Planned}
-use Rattle.rates.specs.Clocks.{hertz, isTaken}
-use Rattle.rates.specs.Rates.{isListed, planAt}
-use Rattle.rates.specs.Plans.{maxDivider, madePlan, refusedWith}
+use Rattle.rates.specs.Clocks.{hertz}
+use Rattle.rates.specs.Rates.{planAt}
+use Rattle.rates.specs.Plans.{maxDivider, answerWith}
 
 -- the second only where it is nearer
 unfoldable pub nearer : Plan → Plan → Plan
@@ -21,4 +21,4 @@ bestUpTo f rate (suc k) = nearer (bestUpTo f rate k) (planAt f rate (suc k))
 
 -- the answer by way of the search, which a machine computes at once
 unfoldable pub searched : Clock → ℕ → Planned
-searched c rate = cond (isTaken c) (cond (isListed rate) (madePlan (bestUpTo (hertz c) rate maxDivider)) (refusedWith 10)) (refusedWith 9)
+searched c rate = answerWith c rate (bestUpTo (hertz c) rate maxDivider)

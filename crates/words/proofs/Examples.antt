@@ -1,8 +1,9 @@
--- Words and what they say, computed.
+-- Words and what they say, and floats and what is shown of them, computed.
 use mathlib.Core.Path.{_≡_, refl}
+use Prim.Native.Nat.{ℕ}
 use Prim.Native.String.{String}
 use mathlib.Core.List.{List, [], _∷_, map}
-use lib.Ieee.{binary64, div, ofInt, ofBits}
+use lib.Ieee.{binary64, add, mul, div, lt, ofInt, ofBits, toUnsigned}
 use Rattle.lines.specs.Ascii.{ascii}
 use Rattle.rates.specs.declared.Clock.the-variants.{Fixed8, Fixed7, External}
 use Rattle.rates.specs.Clocks.{float}
@@ -12,13 +13,14 @@ use Rattle.words.specs.declared.RateWord.{RateWord}
 use Rattle.words.specs.declared.RateWord.the-variants as rate
 use Rattle.words.specs.Numbers.{wholeDigit, decimalDigit, digitIn, afterPoint, isDigit, readByte, readText}
 use Rattle.words.specs.Words.{clockIn, clockWord, wholeRate, rateIn, rateWord}
+use Rattle.words.specs.Shown.{cut, hundredths, percentOf}
 
 -- a word and what it says
 pub record Row (A : Type 0) : Type 0 where
   pub word : String
   pub says : A
 
-abbrev row : {A : Type 0} → String → A → Row A
+abbrev pub row : {A : Type 0} → String → A → Row A
 row w a = record { word = w; says = a }
 
 -- 8 and 7.3728 are megahertz, all other numbers hertz, by the pattern that the number is nearest to
@@ -62,3 +64,36 @@ wanted =
 pub rates-say : map (λ (x : Row RateWord). rateWord (ascii (x .word))) wanted ≡ map (λ (x : Row RateWord). x .says) wanted
 unfolding wanted rateWord rateIn wholeRate readText readByte digitIn wholeDigit decimalDigit afterPoint isDigit
 rates-say = refl
+
+-- a float by its pattern, and the hundredths that are shown of it
+pub record Showing : Type 0 where
+  pub pattern : ℕ
+  pub shows : ℕ
+
+abbrev pub showing : ℕ → ℕ → Showing
+showing p n = record { pattern = p; shows = n }
+
+-- 9615.38.., 15.38.., 55555.5.., 0.005, 0.0049, 0, -0.02, 1.2 * 10 ^ 17, 2 ^ 64, an infinity, a NaN
+unfoldable pub floats : List Showing
+floats =
+    showing 0x40C2C7B13B13B13B 961538
+    ∷ showing 0x402EC4EC4EC4EC00 1538
+    ∷ showing 0x40EB2071C71C71C7 5555556
+    ∷ showing 0x3F747AE147AE147B 1
+    ∷ showing 0x3F741205BC01A36E 0
+    ∷ showing 0x0000000000000000 0
+    ∷ showing 0xBF947AE147AE147B 0
+    ∷ showing 0x437AA535D3D0C000 12000000000000000000
+    ∷ showing 0x43F0000000000000 0
+    ∷ showing 0x7FF0000000000000 0
+    ∷ showing 0x7FF8000000000000 0
+    ∷ []
+
+pub floats-show : map (λ (x : Showing). hundredths (ofBits binary64 (x .pattern))) floats ≡ map (λ (x : Showing). x .shows) floats
+unfolding floats hundredths cut float add mul lt ofInt ofBits toUnsigned
+floats-show = refl
+
+-- the distance for 8 MHz and 57600, 2044.4.. hertz, is 3.549 per cent
+pub percent-shows : hundredths (percentOf (ofBits binary64 0x409FF1C71C71C720) 57600) ≡ 355
+unfolding percentOf hundredths cut float add mul div lt ofInt ofBits toUnsigned
+percent-shows = refl

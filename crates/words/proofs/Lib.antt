@@ -1,4 +1,5 @@
 -- What the proofs of several functions use.
 mod Texts
+pub mod Places
 pub mod Examples
 pub mod Pinned

@@ -17,37 +17,29 @@ Inv-loop f rate best₀ k₀ best k = (k ≤ 255) × (best ≡ bestUpTo f rate k
 abbrev μ-loop : tie.MeasureT-loop
 μ-loop f rate best₀ k₀ best k = 255 - k
 
--- src/lib.rt:93:9
 plan-at-requires : tie.Need-plan-at-requires Inv-loop μ-loop
 plan-at-requires c κs = tt
 
--- src/lib.rt:95:5
 loop-holds : tie.Need-loop-holds Inv-loop μ-loop
 unfolding bestUpTo
 loop-holds c = (omega arith, c .plan-at .ensures)
 
--- src/lib.rt:96:9
 add-k : tie.Need-add-k Inv-loop μ-loop
 add-k c = omega arith
 
--- src/lib.rt:97:29
 plan-at-requires-2 : tie.Need-plan-at-requires-2 Inv-loop μ-loop
 plan-at-requires-2 c κs = tt
 
--- src/lib.rt:97:9
 nearer-requires : tie.Need-nearer-requires Inv-loop μ-loop
 nearer-requires c κs = tt
 
--- src/lib.rt:95:5
 loop-less : tie.Need-loop-less Inv-loop μ-loop
 loop-less c = omega arith
 
--- src/lib.rt:95:5
 loop-again : tie.Need-loop-again Inv-loop μ-loop
 unfolding bestUpTo
 loop-again c = (omega arith, c .nearer .ensures ∙ rw (c .before .plan-at2 .ensures, c .before .before .before .loop .inv .1, add-one))
 
--- src/lib.rt:90:1
 returns : tie.Need-returns Inv-loop μ-loop
 returns c =
     let e : c .before .loop .k ≡ 255 = omega arith in

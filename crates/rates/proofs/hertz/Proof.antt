@@ -7,29 +7,23 @@ use Rattle.rates.proofs.hertz.Tie as tie
 use Rattle.rates.proofs.hertz.Reads as reads
 use Rattle.rates.proofs.hertz.Lts as lts
 
--- src/lib.rt:32:26
 enum-told : tie.Need-enum-told
 enum-told c = search needs
 
--- src/lib.rt:33:26
 enum-told-2 : tie.Need-enum-told-2
 enum-told-2 c = search needs
 
--- src/lib.rt:34:25
 enum-known-clock : tie.Need-enum-known-clock
 enum-known-clock c = search needs
 
--- src/lib.rt:28:1
 returns : tie.Need-returns
 unfolding hertz float ofInt ofBits
 returns c = rw (c .enum-told .given .1)
 
--- src/lib.rt:28:1
 returns-2 : tie.Need-returns-2
 unfolding hertz float ofInt ofBits
 returns-2 c = rw (c .enum-told2 .given .1)
 
--- src/lib.rt:28:1
 returns-3 : tie.Need-returns-3
 unfolding hertz
 returns-3 c = rw (c .before .clock .given .1)

@@ -7,12 +7,10 @@ use Rattle.rates.proofs.is_in_range.Tie as tie
 use Rattle.rates.proofs.is_in_range.Reads as reads
 use Rattle.rates.proofs.is_in_range.Lts as lts
 
--- src/lib.rt:38:1
 returns : tie.Need-returns
 unfolding float ofInt ofBits
 returns c = bottom-passed (c .before .args .f) (c .if1 .taken)
 
--- src/lib.rt:38:1
 returns-2 : tie.Need-returns-2
 unfolding float ofInt ofBits
 returns-2 c = bottom-failed (c .before .args .f) (c .if1 .left)

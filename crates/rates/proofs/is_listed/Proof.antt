@@ -6,32 +6,26 @@ use Rattle.rates.proofs.is_listed.Tie as tie
 use Rattle.rates.proofs.is_listed.Reads as reads
 use Rattle.rates.proofs.is_listed.Lts as lts
 
--- src/lib.rt:48:1
 returns : tie.Need-returns
 unfolding isListed
 returns c = simp (c .match .keys1)
 
--- src/lib.rt:48:1
 returns-2 : tie.Need-returns-2
 unfolding isListed
 returns-2 c = simp (c .match .keys2)
 
--- src/lib.rt:48:1
 returns-3 : tie.Need-returns-3
 unfolding isListed
 returns-3 c = simp (c .match .keys3)
 
--- src/lib.rt:48:1
 returns-4 : tie.Need-returns-4
 unfolding isListed
 returns-4 c = simp (c .match .keys4)
 
--- src/lib.rt:48:1
 returns-5 : tie.Need-returns-5
 unfolding isListed
 returns-5 c = simp (c .match .keys5)
 
--- src/lib.rt:48:1
 returns-6 : tie.Need-returns-6
 unfolding isListed
 returns-6 c =

@@ -5,11 +5,9 @@ use Rattle.rates.proofs.nearer.Tie as tie
 use Rattle.rates.proofs.nearer.Reads as reads
 use Rattle.rates.proofs.nearer.Lts as lts
 
--- src/lib.rt:83:1
 returns : tie.Need-returns
 returns c = let a = c .before .before .before .args in second-nearer (a .p) (a .q) (c .if1 .taken)
 
--- src/lib.rt:83:1
 returns-2 : tie.Need-returns-2
 returns-2 c = let a = c .before .before .before .args in second-not-nearer (a .p) (a .q) (c .if1 .left)
 

@@ -9,24 +9,19 @@ use Rattle.rates.proofs.plan_at.Tie as tie
 use Rattle.rates.proofs.plan_at.Reads as reads
 use Rattle.rates.proofs.plan_at.Lts as lts
 
--- src/lib.rt:65:18
 int-to-float-wanted : tie.Need-int-to-float-wanted
 int-to-float-wanted c = search needs
 
--- src/lib.rt:66:32
 add-reached : tie.Need-add-reached
 add-reached c = search needs
 
--- src/lib.rt:66:31
 int-to-float-reached : tie.Need-int-to-float-reached
 int-to-float-reached c = search needs
 
--- src/lib.rt:62:1
 returns : tie.Need-returns
 unfolding reachedAt float ofInt ofBits
 returns c = let a = c .before .before .before .args in below-wanted (a .f) (a .rate) (a .divider) (c .if1 .taken)
 
--- src/lib.rt:62:1
 returns-2 : tie.Need-returns-2
 unfolding reachedAt float ofInt ofBits
 returns-2 c = let a = c .before .before .before .args in not-below-wanted (a .f) (a .rate) (a .divider) (c .if1 .left)

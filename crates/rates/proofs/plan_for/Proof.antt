@@ -22,19 +22,15 @@ use Rattle.rates.proofs.refused.Reads as refused-reads
 tested : (c : Clock) (f : Float) (r b : Bool) → f ≡ hertz c → r ≡ inRange f → r ≡ b → isTaken c ≡ b
 tested c f r b h e g = sym (taken-in-range c) ∙ ap inRange (sym h) ∙ sym e ∙ g
 
--- src/lib.rt:119:9
 hertz-requires : tie.Need-hertz-requires
 hertz-requires c κs = search needs
 
--- src/lib.rt:120:9
 is-in-range-requires : tie.Need-is-in-range-requires
 is-in-range-requires c κs = search needs
 
--- src/lib.rt:121:9
 refused-requires : tie.Need-refused-requires
 refused-requires c κs = search needs
 
--- src/lib.rt:121:9
 returns : tie.Need-returns
 returns c =
     let d = c .before .before in
@@ -42,15 +38,12 @@ returns c =
     c .refused .ensures
     ∙ not-taken (s .args .clock) (s .args .rate) (tested _ _ _ _ (d .before .hertz .ensures) (d .is-in-range .ensures) (not-true _ (c .before .if1 .taken)))
 
--- src/lib.rt:123:9
 is-listed-requires : tie.Need-is-listed-requires
 is-listed-requires c κs = search needs
 
--- src/lib.rt:124:9
 refused-requires-2 : tie.Need-refused-requires-2
 refused-requires-2 c κs = search needs
 
--- src/lib.rt:124:9
 returns-2 : tie.Need-returns-2
 returns-2 c =
     let d = c .before .before .before .before in
@@ -60,11 +53,9 @@ returns-2 c =
     (tested _ _ _ _ (d .before .hertz .ensures) (d .is-in-range .ensures) (not-false _ (c .before .before .before .if1 .left)))
     (sym (c .before .before .is-listed .ensures) ∙ not-true _ (c .before .if2 .taken))
 
--- src/lib.rt:128:15
 best-requires : tie.Need-best-requires
 best-requires c κs = search needs
 
--- src/lib.rt:116:1
 returns-3 : tie.Need-returns-3
 returns-3 c =
     let d = c .before .before .before .before in

@@ -6,7 +6,6 @@ use Rattle.rates.proofs.refused.Tie as tie
 use Rattle.rates.proofs.refused.Reads as reads
 use Rattle.rates.proofs.refused.Lts as lts
 
--- src/lib.rt:102:1
 returns : tie.Need-returns
 unfolding ofBits
 returns c = refl

@@ -21,15 +21,12 @@ is-nan nan e = refl
 is-nan (inf s) e = absurd (subst T (sym e) tt)
 is-nan (fin s m d) e = absurd (subst T (sym e) tt)
 
--- src/main.rt:63:9
 float-from-bits-result : tie.Need-float-from-bits-result
 float-from-bits-result c = subst (λ (b : Bool). T (not b)) (sym (nanBits-above binary64 (c .before .args .pattern) ∙ le-ltb _ _ (c .if1 .left))) tt
 
--- src/main.rt:57:1
 returns : tie.Need-returns
 returns c = nan-made ∙ is-nan _ (sym (nanBits-is binary64 (c .before .args .pattern)) ∙ nanBits-above binary64 (c .before .args .pattern) ∙ lt-ltb _ _ (c .if1 .taken))
 
--- src/main.rt:57:1
 returns-2 : tie.Need-returns-2
 returns-2 c = search needs
 

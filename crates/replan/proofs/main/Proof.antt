@@ -12,31 +12,24 @@ Inv-loop input₀ out₀ on₀ turns₀ input out on turns = Unit
 abbrev μ-loop : tie.MeasureT-loop
 μ-loop input₀ out₀ on₀ turns₀ input out on turns = turns
 
--- src/main.rt:163:5
 loop-holds : tie.Need-loop-holds Inv-loop μ-loop
 loop-holds c = tt
 
--- src/main.rt:164:9
 take-some-requires : tie.Need-take-some-requires Inv-loop μ-loop
 take-some-requires c κs = tt
 
--- src/main.rt:165:9
 sub-turns : tie.Need-sub-turns Inv-loop μ-loop
 sub-turns c = omega arith
 
--- src/main.rt:163:5
 loop-less : tie.Need-loop-less Inv-loop μ-loop
 loop-less c = omega arith
 
--- src/main.rt:163:5
 loop-again : tie.Need-loop-again Inv-loop μ-loop
 loop-again c = tt
 
--- src/main.rt:158:1
 returns : tie.Need-returns Inv-loop μ-loop
 returns c = tt
 
--- src/main.rt:158:1
 returns-2 : tie.Need-returns-2 Inv-loop μ-loop
 returns-2 c = tt
 

@@ -16,19 +16,15 @@ use Rattle.rates.proofs.plan_for.Reads as plan-for-reads
 both : (clock : Clock) (rate : ℕ) (r : Planned) → r ≡ planned clock rate → Plain (r .plan .reached) × Plain (r .plan .distance)
 both clock rate r e = subst (λ (r : Planned). Plain (r .plan .reached) × Plain (r .plan .distance)) (sym e) (answer-plain clock rate)
 
--- src/main.rt:76:9
 plan-for-requires : tie.Need-plan-for-requires
 plan-for-requires c κs = search needs
 
--- src/main.rt:81:18
 float-to-bits-t5 : tie.Need-float-to-bits-t5
 float-to-bits-t5 c = plain-real _ (both _ _ _ (c .before .before .plan-for .ensures) .0)
 
--- src/main.rt:82:19
 float-to-bits-t6 : tie.Need-float-to-bits-t6
 float-to-bits-t6 c = plain-real _ (both _ _ _ (c .before .before .before .plan-for .ensures) .1)
 
--- src/main.rt:75:1
 returns : tie.Need-returns
 returns c = search needs
 

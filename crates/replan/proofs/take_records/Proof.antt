@@ -15,39 +15,30 @@ Inv-loop records count out₀ i₀ out i = (length out ≡ length out₀) × (i 
 abbrev μ-loop : tie.MeasureT-loop
 μ-loop records count out₀ i₀ out i = count - i
 
--- src/main.rt:130:5
 loop-holds : tie.Need-loop-holds Inv-loop μ-loop
 loop-holds c = (refl, omega arith)
 
--- src/main.rt:131:13
 take-record-requires : tie.Need-take-record-requires Inv-loop μ-loop
 take-record-requires c κs = omega arith
 
--- src/main.rt:132:13
 same-length : tie.Need-same-length Inv-loop μ-loop
 same-length c = c .before .before .before .take-record .kept .1 .1 .0 ∙ c .before .before .before .before .before .before .loop .inv .0
 
--- src/main.rt:132:13
 returns : tie.Need-returns Inv-loop μ-loop
 returns c = omega arith
 
--- src/main.rt:134:9
 add-i : tie.Need-add-i Inv-loop μ-loop
 add-i c = omega arith
 
--- src/main.rt:130:5
 loop-less : tie.Need-loop-less Inv-loop μ-loop
 loop-less c = omega arith
 
--- src/main.rt:130:5
 loop-again : tie.Need-loop-again Inv-loop μ-loop
 loop-again c = (c .before .before .before .take-record .kept .1 .1 .0 ∙ c .before .before .before .before .before .before .loop .inv .0, omega arith)
 
--- src/main.rt:125:1
 same-length-2 : tie.Need-same-length-2 Inv-loop μ-loop
 same-length-2 c = c .before .loop .inv .0
 
--- src/main.rt:125:1
 returns-2 : tie.Need-returns-2 Inv-loop μ-loop
 returns-2 c = omega arith
 

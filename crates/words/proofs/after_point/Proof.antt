@@ -6,56 +6,44 @@ use Rattle.words.proofs.after_point.Tie as tie
 use Rattle.words.proofs.after_point.Reads as reads
 use Rattle.words.proofs.after_point.Lts as lts
 
--- src/lib.rt:98:25
 enum-told : tie.Need-enum-told
 enum-told c = search needs
 
--- src/lib.rt:99:25
 enum-told-2 : tie.Need-enum-told-2
 enum-told-2 c = search needs
 
--- src/lib.rt:100:25
 enum-told-3 : tie.Need-enum-told-3
 enum-told-3 c = search needs
 
--- src/lib.rt:101:28
 enum-told-4 : tie.Need-enum-told-4
 enum-told-4 c = search needs
 
--- src/lib.rt:102:30
 enum-told-5 : tie.Need-enum-told-5
 enum-told-5 c = search needs
 
--- src/lib.rt:103:27
 enum-told-6 : tie.Need-enum-told-6
 enum-told-6 c = search needs
 
--- src/lib.rt:94:1
 returns : tie.Need-returns
 unfolding afterPoint
 returns c = rw (c .enum-told .given .1)
 
--- src/lib.rt:94:1
 returns-2 : tie.Need-returns-2
 unfolding afterPoint
 returns-2 c = rw (c .enum-told2 .given .1)
 
--- src/lib.rt:94:1
 returns-3 : tie.Need-returns-3
 unfolding afterPoint
 returns-3 c = rw (c .enum-told3 .given .1)
 
--- src/lib.rt:94:1
 returns-4 : tie.Need-returns-4
 unfolding afterPoint
 returns-4 c = rw (c .enum-told4 .given .1)
 
--- src/lib.rt:94:1
 returns-5 : tie.Need-returns-5
 unfolding afterPoint
 returns-5 c = rw (c .enum-told5 .given .1)
 
--- src/lib.rt:94:1
 returns-6 : tie.Need-returns-6
 unfolding afterPoint
 returns-6 c = rw (c .enum-told6 .given .1)

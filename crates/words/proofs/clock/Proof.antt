@@ -12,39 +12,30 @@ use Rattle.slices.proofs.is_same.Reads as is-same-reads
 use Rattle.words.proofs.clock_in.Reads as clock-in-reads
 use Rattle.words.proofs.read.Reads as read-reads
 
--- src/lib.rt:169:30
 slice-aggregate-is-same : tie.Need-slice-aggregate-is-same
 slice-aggregate-is-same c = search needs
 
--- src/lib.rt:169:8
 is-same-requires : tie.Need-is-same-requires
 is-same-requires c κs = search needs
 
--- src/lib.rt:170:9
 returns : tie.Need-returns
 returns c = word-8 _ (sym (c .before .is-same .ensures) ∙ c .if1 .taken)
 
--- src/lib.rt:172:30
 slice-aggregate-is-same-2 : tie.Need-slice-aggregate-is-same-2
 slice-aggregate-is-same-2 c = search needs
 
--- src/lib.rt:172:8
 is-same-requires-2 : tie.Need-is-same-requires-2
 is-same-requires-2 c κs = search needs
 
--- src/lib.rt:173:9
 returns-2 : tie.Need-returns-2
 returns-2 c = word-7 _ (sym (c .before .before .before .before .is-same .ensures) ∙ c .before .before .before .if1 .left) (sym (c .before .is-same2 .ensures) ∙ c .if2 .taken)
 
--- src/lib.rt:175:9
 read-requires : tie.Need-read-requires
 read-requires c κs = search needs
 
--- src/lib.rt:177:5
 clock-in-requires : tie.Need-clock-in-requires
 clock-in-requires c κs = search needs
 
--- src/lib.rt:166:1
 returns-3 : tie.Need-returns-3
 returns-3 c =
     let d = c .before .before in

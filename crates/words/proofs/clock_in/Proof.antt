@@ -8,64 +8,50 @@ use Rattle.words.proofs.clock_in.Reads as reads
 use Rattle.words.proofs.clock_in.Lts as lts
 use Rattle.words.proofs.external.Reads as external-reads
 
--- src/lib.rt:155:25
 enum-told : tie.Need-enum-told
 enum-told c = search needs
 
--- src/lib.rt:156:25
 enum-told-2 : tie.Need-enum-told-2
 enum-told-2 c = search needs
 
--- src/lib.rt:156:25
 external-requires : tie.Need-external-requires
 external-requires c κs = search needs
 
--- src/lib.rt:157:25
 enum-told-3 : tie.Need-enum-told-3
 enum-told-3 c = search needs
 
--- src/lib.rt:158:28
 enum-told-4 : tie.Need-enum-told-4
 enum-told-4 c = search needs
 
--- src/lib.rt:158:28
 external-requires-2 : tie.Need-external-requires-2
 external-requires-2 c κs = search needs
 
--- src/lib.rt:159:30
 enum-told-5 : tie.Need-enum-told-5
 enum-told-5 c = search needs
 
--- src/lib.rt:160:27
 enum-told-6 : tie.Need-enum-told-6
 enum-told-6 c = search needs
 
--- src/lib.rt:151:1
 returns : tie.Need-returns
 unfolding clockIn
 returns c = rw (c .enum-told .given .1)
 
--- src/lib.rt:151:1
 returns-2 : tie.Need-returns-2
 unfolding clockIn
 returns-2 c = c .external .ensures ∙ rw (c .before .enum-told2 .given .1)
 
--- src/lib.rt:151:1
 returns-3 : tie.Need-returns-3
 unfolding clockIn
 returns-3 c = rw (c .enum-told3 .given .1)
 
--- src/lib.rt:151:1
 returns-4 : tie.Need-returns-4
 unfolding clockIn
 returns-4 c = c .external2 .ensures ∙ rw (c .before .enum-told4 .given .1)
 
--- src/lib.rt:151:1
 returns-5 : tie.Need-returns-5
 unfolding clockIn
 returns-5 c = rw (c .enum-told5 .given .1)
 
--- src/lib.rt:151:1
 returns-6 : tie.Need-returns-6
 unfolding clockIn
 returns-6 c = rw (c .enum-told6 .given .1)

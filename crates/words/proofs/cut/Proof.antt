@@ -9,22 +9,18 @@ use Rattle.words.proofs.cut.Reads as reads
 use Rattle.words.proofs.cut.Lts as lts
 use Rattle.std.proofs.num.truncating_f64_to_u64.Reads as truncating-f64-to-u64-reads
 
--- src/lib.rt:218:13
 truncating-f64-to-u64-requires : tie.Need-truncating-f64-to-u64-requires
 unfolding ofBits neg
 truncating-f64-to-u64-requires c κs = (subst T (sym (c .before .if1 .taken)) tt, subst T (sym (c .if2 .taken)) tt)
 
--- src/lib.rt:218:13
 returns : tie.Need-returns
 unfolding cut ofBits neg
 returns c = c .truncating-f64-to-u64 .ensures ∙ rw (c .before .before .if1 .taken, c .before .if2 .taken)
 
--- src/lib.rt:220:9
 returns-2 : tie.Need-returns-2
 unfolding cut ofBits neg
 returns-2 c = rw (c .before .if1 .taken, c .if2 .left)
 
--- src/lib.rt:213:1
 returns-3 : tie.Need-returns-3
 unfolding cut ofBits neg
 returns-3 c = rw (c .if1 .left)

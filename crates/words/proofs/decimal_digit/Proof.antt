@@ -9,37 +9,29 @@ use Rattle.words.proofs.decimal_digit.Reads as reads
 use Rattle.words.proofs.decimal_digit.Lts as lts
 use Rattle.words.proofs.with_state.Reads as with-state-reads
 
--- src/lib.rt:69:9
 with-state-requires : tie.Need-with-state-requires
 with-state-requires c κs = search needs
 
--- src/lib.rt:69:9
 returns : tie.Need-returns
 unfolding decimalDigit
 returns c = c .with-state .ensures ∙ rw (lt-ltb _ _ (c .before .if1 .taken))
 
--- src/lib.rt:72:9
 with-state-requires-2 : tie.Need-with-state-requires-2
 with-state-requires-2 c κs = search needs
 
--- src/lib.rt:72:9
 returns-2 : tie.Need-returns-2
 unfolding decimalDigit
 returns-2 c = c .with-state2 .ensures ∙ rw (le-ltb _ _ (c .before .before .before .if1 .left), lt-ltb _ _ (c .before .if2 .taken))
 
--- src/lib.rt:75:17
 mul-t6 : tie.Need-mul-t6
 mul-t6 c = search needs
 
--- src/lib.rt:75:17
 add-t8 : tie.Need-add-t8
 add-t8 c = search needs
 
--- src/lib.rt:76:16
 mul-t9 : tie.Need-mul-t9
 mul-t9 c = search needs
 
--- src/lib.rt:65:1
 returns-3 : tie.Need-returns-3
 unfolding decimalDigit
 returns-3 c = rw (le-ltb _ _ (c .before .before .before .before .if1 .left), le-ltb _ _ (c .before .before .if2 .left))

@@ -7,15 +7,12 @@ use Rattle.words.proofs.external.Reads as reads
 use Rattle.words.proofs.external.Lts as lts
 use Rattle.std.proofs.num.nearest_u64_to_f64.Reads as nearest-u64-to-f64-reads
 
--- src/lib.rt:146:9
 nearest-u64-to-f64-requires : tie.Need-nearest-u64-to-f64-requires
 nearest-u64-to-f64-requires c κs = search needs
 
--- src/lib.rt:147:9
 nearest-u64-to-f64-requires-2 : tie.Need-nearest-u64-to-f64-requires-2
 nearest-u64-to-f64-requires-2 c κs = search needs
 
--- src/lib.rt:143:1
 returns : tie.Need-returns
 unfolding float
 returns c = rw (c .before .nearest-u64-to-f64 .ensures, c .nearest-u64-to-f642 .ensures)

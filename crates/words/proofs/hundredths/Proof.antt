@@ -9,11 +9,9 @@ use Rattle.words.proofs.hundredths.Reads as reads
 use Rattle.words.proofs.hundredths.Lts as lts
 use Rattle.words.proofs.cut.Reads as cut-reads
 
--- src/lib.rt:224:5
 cut-requires : tie.Need-cut-requires
 cut-requires c κs = search needs
 
--- src/lib.rt:221:1
 returns : tie.Need-returns
 unfolding hundredths float ofInt ofBits
 returns c = c .cut .ensures

@@ -5,11 +5,9 @@ use Rattle.words.proofs.is_digit.Tie as tie
 use Rattle.words.proofs.is_digit.Reads as reads
 use Rattle.words.proofs.is_digit.Lts as lts
 
--- src/lib.rt:107:1
 returns : tie.Need-returns
 returns c = digit-low (c .before .args .b) (c .if1 .taken)
 
--- src/lib.rt:107:1
 returns-2 : tie.Need-returns-2
 returns-2 c = digit-too-low (c .before .args .b) (c .if1 .left)
 

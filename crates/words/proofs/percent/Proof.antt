@@ -9,11 +9,9 @@ use Rattle.words.proofs.percent.Tie as tie
 use Rattle.words.proofs.percent.Reads as reads
 use Rattle.words.proofs.percent.Lts as lts
 
--- src/lib.rt:231:25
 int-to-float-result : tie.Need-int-to-float-result
 int-to-float-result c = search needs
 
--- src/lib.rt:228:1
 returns : tie.Need-returns
 unfolding percentOf float ofInt ofBits
 returns c = refl

@@ -9,15 +9,12 @@ use Rattle.words.proofs.rate.Lts as lts
 use Rattle.words.proofs.rate_in.Reads as rate-in-reads
 use Rattle.words.proofs.read.Reads as read-reads
 
--- src/lib.rt:208:9
 read-requires : tie.Need-read-requires
 read-requires c κs = search needs
 
--- src/lib.rt:210:5
 rate-in-requires : tie.Need-rate-in-requires
 rate-in-requires c κs = search needs
 
--- src/lib.rt:205:1
 returns : tie.Need-returns
 unfolding rateWord
 returns c = c .rate-in .ensures ∙ rw (c .before .read .ensures)

@@ -8,60 +8,47 @@ use Rattle.words.proofs.rate_in.Reads as reads
 use Rattle.words.proofs.rate_in.Lts as lts
 use Rattle.words.proofs.whole_rate.Reads as whole-rate-reads
 
--- src/lib.rt:193:25
 enum-told : tie.Need-enum-told
 enum-told c = search needs
 
--- src/lib.rt:194:25
 enum-told-2 : tie.Need-enum-told-2
 enum-told-2 c = search needs
 
--- src/lib.rt:194:25
 whole-rate-requires : tie.Need-whole-rate-requires
 whole-rate-requires c κs = search needs
 
--- src/lib.rt:195:25
 enum-told-3 : tie.Need-enum-told-3
 enum-told-3 c = search needs
 
--- src/lib.rt:196:28
 enum-told-4 : tie.Need-enum-told-4
 enum-told-4 c = search needs
 
--- src/lib.rt:197:30
 enum-told-5 : tie.Need-enum-told-5
 enum-told-5 c = search needs
 
--- src/lib.rt:198:27
 enum-told-6 : tie.Need-enum-told-6
 enum-told-6 c = search needs
 
--- src/lib.rt:189:1
 returns : tie.Need-returns
 unfolding rateIn
 returns c = rw (c .enum-told .given .1)
 
--- src/lib.rt:189:1
 returns-2 : tie.Need-returns-2
 unfolding rateIn
 returns-2 c = c .whole-rate .ensures ∙ rw (c .before .enum-told2 .given .1)
 
--- src/lib.rt:189:1
 returns-3 : tie.Need-returns-3
 unfolding rateIn
 returns-3 c = rw (c .enum-told3 .given .1)
 
--- src/lib.rt:189:1
 returns-4 : tie.Need-returns-4
 unfolding rateIn
 returns-4 c = rw (c .enum-told4 .given .1)
 
--- src/lib.rt:189:1
 returns-5 : tie.Need-returns-5
 unfolding rateIn
 returns-5 c = rw (c .enum-told5 .given .1)
 
--- src/lib.rt:189:1
 returns-6 : tie.Need-returns-6
 unfolding rateIn
 returns-6 c = rw (c .enum-told6 .given .1)

@@ -18,35 +18,28 @@ Inv-loop text r₀ i₀ r i = (i ≤ length text) × (readFrom r (drop i text) �
 abbrev μ-loop : tie.MeasureT-loop
 μ-loop text r₀ i₀ r i = length text - i
 
--- src/lib.rt:136:5
 loop-holds : tie.Need-loop-holds Inv-loop μ-loop
 unfolding readText
 loop-holds c = (omega arith, refl)
 
--- src/lib.rt:137:26
 shared-slice-read-read-byte : tie.Need-shared-slice-read-read-byte Inv-loop μ-loop
 shared-slice-read-read-byte c = omega arith
 
--- src/lib.rt:137:9
 read-byte-requires : tie.Need-read-byte-requires Inv-loop μ-loop
 read-byte-requires c κs = tt
 
--- src/lib.rt:138:9
 add-i : tie.Need-add-i Inv-loop μ-loop
 add-i c = omega arith
 
--- src/lib.rt:136:5
 loop-less : tie.Need-loop-less Inv-loop μ-loop
 loop-less c = omega arith
 
--- src/lib.rt:136:5
 loop-again : tie.Need-loop-again Inv-loop μ-loop
 loop-again c =
     let l = c .before .before .before .loop in
     let t = now (c .before .before .before .before .before .args .text) in
     (omega arith, rw (c .read-byte .ensures) (text-turn t (l .r) (l .i) (omega arith) ∙ l .inv .1))
 
--- src/lib.rt:127:1
 returns : tie.Need-returns Inv-loop μ-loop
 returns c =
     let l = c .before .loop in

@@ -12,33 +12,26 @@ use Rattle.words.proofs.digit_in.Reads as digit-in-reads
 use Rattle.words.proofs.is_digit.Reads as is-digit-reads
 use Rattle.words.proofs.with_state.Reads as with-state-reads
 
--- src/lib.rt:117:8
 is-digit-requires : tie.Need-is-digit-requires
 is-digit-requires c κs = search needs
 
--- src/lib.rt:118:35
 sub-digit-in : tie.Need-sub-digit-in
 sub-digit-in c = digit-least _ (sym (c .before .is-digit .ensures) ∙ c .if1 .taken)
 
--- src/lib.rt:118:9
 digit-in-requires : tie.Need-digit-in-requires
 digit-in-requires c κs = search needs
 
--- src/lib.rt:118:9
 returns : tie.Need-returns
 returns c =
     let d = c .before .before in
     c .digit-in .ensures ∙ digit-read (d .before .args .r) (d .before .args .b) (sym (d .is-digit .ensures) ∙ c .before .if1 .taken)
 
--- src/lib.rt:121:30
 after-point-requires : tie.Need-after-point-requires
 after-point-requires c κs = search needs
 
--- src/lib.rt:121:9
 with-state-requires : tie.Need-with-state-requires
 with-state-requires c κs = search needs
 
--- src/lib.rt:121:9
 returns-2 : tie.Need-returns-2
 returns-2 c =
     let d = c .before .before .before .before in
@@ -47,11 +40,9 @@ returns-2 c =
     ∙ ap (withState r) (c .before .after-point .ensures)
     ∙ point-read r (d .before .args .b) (sym (d .is-digit .ensures) ∙ c .before .before .before .if1 .left) (c .before .before .if2 .taken)
 
--- src/lib.rt:123:5
 with-state-requires-2 : tie.Need-with-state-requires-2
 with-state-requires-2 c κs = search needs
 
--- src/lib.rt:113:1
 returns-3 : tie.Need-returns-3
 returns-3 c =
     let d = c .before .before .before in

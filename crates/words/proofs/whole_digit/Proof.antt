@@ -9,24 +9,19 @@ use Rattle.words.proofs.whole_digit.Reads as reads
 use Rattle.words.proofs.whole_digit.Lts as lts
 use Rattle.words.proofs.with_state.Reads as with-state-reads
 
--- src/lib.rt:56:9
 with-state-requires : tie.Need-with-state-requires
 with-state-requires c κs = search needs
 
--- src/lib.rt:56:9
 returns : tie.Need-returns
 unfolding wholeDigit
 returns c = c .with-state .ensures ∙ rw (lt-ltb _ _ (c .before .if1 .taken))
 
--- src/lib.rt:59:17
 mul-t5 : tie.Need-mul-t5
 mul-t5 c = search needs
 
--- src/lib.rt:59:17
 add-t7 : tie.Need-add-t7
 add-t7 c = search needs
 
--- src/lib.rt:52:1
 returns-2 : tie.Need-returns-2
 unfolding wholeDigit
 returns-2 c = rw (le-ltb _ _ (c .before .if1 .left))

@@ -9,16 +9,13 @@ use Rattle.words.proofs.whole_rate.Tie as tie
 use Rattle.words.proofs.whole_rate.Reads as reads
 use Rattle.words.proofs.whole_rate.Lts as lts
 
--- src/lib.rt:183:25
 cast-t4 : tie.Need-cast-t4
 cast-t4 c = search needs
 
--- src/lib.rt:179:1
 returns : tie.Need-returns
 unfolding wholeRate
 returns c = let e : min (c .before .args .number) 0xFFFFFFFF ≡ c .before .args .number = omega arith in rw e
 
--- src/lib.rt:179:1
 returns-2 : tie.Need-returns-2
 unfolding wholeRate
 returns-2 c = let e : min (c .before .args .number) 0xFFFFFFFF ≡ 0xFFFFFFFF = omega arith in rw e
