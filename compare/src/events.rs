@@ -3,7 +3,7 @@
 use std::collections::BTreeMap;
 
 /// How often a run of the gate's length has to meet each.
-pub const LEAST: usize = 20;
+const LEAST: usize = 20;
 
 #[derive(Default)]
 pub struct Events(BTreeMap<String, usize>);

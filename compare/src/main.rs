@@ -1,4 +1,4 @@
-//! Holds the proved port to the independent second program: both answer the same cases, and the answers are compared byte for byte.
+//! Holds the proved port, or the proved planner, to the independent second program: both answer the same cases, and the answers are compared byte for byte.
 
 use std::path::PathBuf;
 use std::process::ExitCode;

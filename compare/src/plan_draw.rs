@@ -1,11 +1,8 @@
 //! Draws clocks and rates: near the bounds, near exact hits and ties, whole numbers of hertz, and any pattern at all.
 
-use crate::plan_rows::{NO_CLOCKS, NO_RATES, RATES};
+use crate::plan_rows::{MHZ_2, MHZ_20, NO_CLOCKS, NO_RATES, RATES};
 use crate::plans::Ask;
 use crate::random::Random;
-
-const LEAST: u64 = 0x413E_8480_0000_0000;
-const MOST: u64 = 0x4173_12D0_0000_0000;
 
 /// A pattern up to four steps away.
 fn near(random: &mut Random, pattern: u64) -> u64 {
@@ -25,11 +22,11 @@ fn tie(random: &mut Random, rate: u32) -> f64 {
 
 fn frequency(random: &mut Random, rate: u32) -> u64 {
     match random.below(12) {
-        0 | 1 => LEAST + random.next() % (MOST - LEAST + 1),
+        0 | 1 => MHZ_2 + random.next() % (MHZ_20 - MHZ_2 + 1),
         2 | 3 => (2e6 + 18e6 * (random.next() as f64 / u64::MAX as f64)).to_bits(),
         4 => ((2_000_000 + random.below(18_000_001)) as f64).to_bits(),
         5 => {
-            let bound = random.of(&[LEAST, MOST]);
+            let bound = random.of(&[MHZ_2, MHZ_20]);
             near(random, bound)
         }
         6 => {

@@ -2,11 +2,11 @@
 
 use crate::plans::{Ask, Plan};
 
-/// Patterns of frequencies.
-const MHZ_2: u64 = 0x413E_8480_0000_0000;
+/// Patterns of frequencies; the first and the fourth are the bounds.
+pub const MHZ_2: u64 = 0x413E_8480_0000_0000;
 const MHZ_8: u64 = 0x415E_8480_0000_0000;
 const MHZ_16: u64 = 0x416E_8480_0000_0000;
-const MHZ_20: u64 = 0x4173_12D0_0000_0000;
+pub const MHZ_20: u64 = 0x4173_12D0_0000_0000;
 const HZ_12345678_9: u64 = 0x4167_8C29_DCCC_CCCD;
 
 pub const RATES: [u32; 5] = [9600, 19200, 38400, 57600, 115200];
@@ -88,22 +88,23 @@ fn blocks() -> [Block; 6] {
     ]
 }
 
-/// Clocks in hertz at which the divider and the next one are exactly as far from the wanted rate: the smaller is the plan's.
-pub const TIES: [(u32, u32, u8); 14] = [
-    (2457600, 115200, 0),
-    (2211840, 57600, 1),
-    (4423680, 115200, 1),
-    (4096000, 57600, 3),
-    (8192000, 115200, 3),
-    (2293760, 19200, 6),
-    (4587520, 38400, 6),
-    (6881280, 57600, 6),
-    (13762560, 115200, 6),
-    (3833856, 19200, 11),
-    (7667712, 38400, 11),
-    (11501568, 57600, 11),
-    (5758976, 9600, 36),
-    (11517952, 19200, 36),
+/// Clocks in hertz at which the divider and the next one are exactly as far from the wanted rate: the smaller is the plan's. Clock, rate,
+/// divider, reached rate, distance, all whole numbers of hertz.
+const TIES: [(u32, u32, u8, u32, u32); 14] = [
+    (2457600, 115200, 0, 153600, 38400),
+    (2211840, 57600, 1, 69120, 11520),
+    (4423680, 115200, 1, 138240, 23040),
+    (4096000, 57600, 3, 64000, 6400),
+    (8192000, 115200, 3, 128000, 12800),
+    (2293760, 19200, 6, 20480, 1280),
+    (4587520, 38400, 6, 40960, 2560),
+    (6881280, 57600, 6, 61440, 3840),
+    (13762560, 115200, 6, 122880, 7680),
+    (3833856, 19200, 11, 19968, 768),
+    (7667712, 38400, 11, 39936, 1536),
+    (11501568, 57600, 11, 59904, 2304),
+    (5758976, 9600, 36, 9728, 128),
+    (11517952, 19200, 36, 19456, 256),
 ];
 
 /// Clocks that are refused with 9, whatever the rate.
@@ -143,68 +144,50 @@ pub const NO_RATES: [u32; 13] = [
     0xFFFF_FFFF,
 ];
 
-/// Every row: what is asked, and what is answered; of a tie the divider alone is typed.
-pub fn all() -> Vec<(Ask, Typed)> {
+/// Every row: what is asked, and what is answered.
+pub fn all() -> Vec<(Ask, Plan)> {
     let mut rows = Vec::new();
-    for ((clock, frequency), plans) in blocks() {
+    let made = |divider, reached, distance| Plan {
+        refusal: 0,
+        divider,
+        reached,
+        distance,
+    };
+    let ask = |(clock, frequency), rate| Ask {
+        clock,
+        frequency,
+        rate,
+    };
+    for (clock, plans) in blocks() {
         for (rate, (divider, reached, distance)) in RATES.into_iter().zip(plans) {
-            rows.push((
-                Ask {
-                    clock,
-                    frequency,
-                    rate,
-                },
-                Typed::Whole(Plan {
-                    refusal: 0,
-                    divider,
-                    reached,
-                    distance,
-                }),
-            ));
+            rows.push((ask(clock, rate), made(divider, reached, distance)));
         }
     }
-    for (hertz, rate, divider) in TIES {
-        rows.push((
-            Ask::external(f64::from(hertz), rate),
-            Typed::Divider(divider),
-        ));
+    for (hertz, rate, divider, reached, distance) in TIES {
+        let plan = made(
+            divider,
+            f64::from(reached).to_bits(),
+            f64::from(distance).to_bits(),
+        );
+        rows.push((Ask::external(f64::from(hertz), rate), plan));
     }
     for frequency in NO_CLOCKS {
         for rate in [9600, 115200, 9601] {
-            rows.push((
-                Ask {
-                    clock: 2,
-                    frequency,
-                    rate,
-                },
-                Typed::Whole(Plan::refused(9)),
-            ));
+            rows.push((ask(external(frequency), rate), Plan::refused(9)));
         }
     }
     for rate in NO_RATES {
-        for (clock, frequency) in [
+        for clock in [
             FIXED_8,
             FIXED_7,
             external(MHZ_8),
             external(MHZ_2),
             external(MHZ_20),
         ] {
-            rows.push((
-                Ask {
-                    clock,
-                    frequency,
-                    rate,
-                },
-                Typed::Whole(Plan::refused(10)),
-            ));
+            rows.push((ask(clock, rate), Plan::refused(10)));
         }
     }
     rows
-}
-
-pub enum Typed {
-    Whole(Plan),
-    Divider(u8),
 }
 
 /// Source document 000, Table 3.3.1: the clocks, and at each rate whether they can communicate ('o') or not ('x'), in the source's order.

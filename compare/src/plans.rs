@@ -2,7 +2,7 @@
 
 use crate::events::Events;
 use crate::plan_draw;
-use crate::plan_rows::{self, Typed, RATES};
+use crate::plan_rows::{self, MHZ_2, MHZ_20, RATES};
 use crate::programs::Programs;
 use crate::random::Random;
 
@@ -126,11 +126,7 @@ fn typed_rows(programs: &Programs) -> Result<bool, String> {
     let mut good = true;
     for (who, plans) in [("planner", &port), ("reference", &reference)] {
         for ((asked, typed), plan) in rows.iter().zip(plans) {
-            let right = match typed {
-                Typed::Whole(wanted) => plan == wanted,
-                Typed::Divider(divider) => (plan.refusal, plan.divider) == (0, *divider),
-            };
-            if !right {
+            if plan != typed {
                 println!("typed plan: {who}: {asked:X?}: {plan:X?}");
                 good = false;
             }
@@ -144,17 +140,19 @@ fn typed_rows(programs: &Programs) -> Result<bool, String> {
 fn source_table(programs: &Programs) -> Result<bool, String> {
     let entries = plan_rows::table();
     let asks: Vec<Ask> = entries.iter().map(|entry| entry.0).collect();
-    let (port, _) = ask(programs, &asks)?;
+    let (port, reference) = ask(programs, &asks)?;
     let mut good = true;
-    for ((asked, works), plan) in entries.iter().zip(port) {
-        if plan.refusal != 0 || plan.is_far(asked.rate) == *works {
-            let hertz = f64::from_bits(asked.frequency);
-            println!("source table: {hertz} Hz, {}: {plan:X?}", asked.rate);
-            good = false;
+    for (who, plans) in [("planner", &port), ("reference", &reference)] {
+        for ((asked, works), plan) in entries.iter().zip(plans) {
+            if plan.refusal != 0 || plan.is_far(asked.rate) == *works {
+                let hertz = f64::from_bits(asked.frequency);
+                println!("source table: {who}: {hertz} Hz, {}: {plan:X?}", asked.rate);
+                good = false;
+            }
         }
     }
     println!(
-        "plans: {} entries of source document 000's Table 3.3.1",
+        "plans: {} entries of source document 000's Table 3.3.1, by both programs",
         entries.len()
     );
     Ok(good)
@@ -162,13 +160,11 @@ fn source_table(programs: &Programs) -> Result<bool, String> {
 
 fn note_clock(events: &mut Events, frequency: u64) {
     let clock = f64::from_bits(frequency);
-    let least = 2_000_000f64.to_bits();
-    let most = 20_000_000f64.to_bits();
     for (is, what) in [
-        (frequency == least, "2,000,000"),
-        (frequency == least - 1, "next below 2,000,000"),
-        (frequency == most, "20,000,000"),
-        (frequency == most + 1, "next above 20,000,000"),
+        (frequency == MHZ_2, "2,000,000"),
+        (frequency == MHZ_2 - 1, "next below 2,000,000"),
+        (frequency == MHZ_20, "20,000,000"),
+        (frequency == MHZ_20 + 1, "next above 20,000,000"),
         (clock.is_nan(), "a NaN"),
         (clock.is_infinite(), "an infinity"),
         (clock == 0.0, "a zero"),
@@ -208,19 +204,15 @@ fn follow(events: &mut Events, asked: &Ask, plan: &Plan) {
     if plan.refusal == 9 && !RATES.contains(&asked.rate) {
         events.note("refusal 9, rate wrong too");
     }
-    let hertz = match asked.clock {
-        0 => 8_000_000.0,
-        1 => 7_372_800.0,
-        _ => f64::from_bits(asked.frequency),
-    };
-    match asked.clock {
-        0 => events.note("clock 8 MHz"),
-        1 => events.note("clock 7.3728 MHz"),
+    let (clock, hertz) = match asked.clock {
+        0 => ("8 MHz", 8_000_000.0),
+        1 => ("7.3728 MHz", 7_372_800.0),
         _ => {
-            events.note("clock external");
             note_clock(events, asked.frequency);
+            ("external", f64::from_bits(asked.frequency))
         }
-    }
+    };
+    events.note(format!("clock {clock}"));
     if plan.refusal == 0 {
         note_plan(events, hertz, asked.rate, plan);
     }

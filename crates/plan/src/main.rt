@@ -52,8 +52,8 @@ fn end_line(reached: f64, wanted: f64) -> bool {
     say(b" per cent away: exact\n")
 }
 
-// The line of a plan, from its colon on.
-fn say_plan(plan: Plan, rate: u32) {
+// The line of a plan, from its colon on. Says whether it could be written; where not, one line on standard error says so.
+fn say_plan(plan: Plan, rate: u32) -> bool {
     say(b": divider ");
     say_number(plan.divider as u64);
     say(b" (hexadecimal ");
@@ -64,9 +64,11 @@ fn say_plan(plan: Plan, rate: u32) {
     say_hundredths(plan.distance);
     say(b" Hz or ");
     say_hundredths(words::percent(plan.distance, rate));
-    if !end_line(plan.reached, rate as f64) {
-        os::fail(b"plan: standard output");
+    if end_line(plan.reached, rate as f64) {
+        return true;
     }
+    os::fail(b"plan: standard output");
+    false
 }
 
 // A fixed clock is named in megahertz.
@@ -81,31 +83,33 @@ fn say_unit(clock: Clock) {
     }
 }
 
-// The answer to a clock, which is named by this word, and a wanted rate.
-fn answer(word: &[u8], clock: Clock, rate: u32) {
+// The answer to a clock, which is named by this word, and a wanted rate. Says whether a plan was written.
+fn answer(word: &[u8], clock: Clock, rate: u32) -> bool {
     let planned = rates::plan_for(clock, rate);
     if planned.refusal == 9 {
         complain(b"plan: refused 9: an external clock is from 2000000 to 20000000 hertz\n");
-        return;
+        return false;
     }
     if planned.refusal == 10 {
         complain(b"plan: refused 10: the wanted rate is 9600, 19200, 38400, 57600 or 115200\n");
-        return;
+        return false;
     }
     let plan = planned.plan;
     say(word);
     say_unit(clock);
     say_number(rate as u64);
-    say_plan(plan, rate);
+    say_plan(plan, rate)
 }
 
 fn ask_rate(word: &[u8], clock: Clock, rate: &[u8]) {
     match words::rate(rate) {
-        RateWord::Given(n) => answer(word, clock, n),
+        RateWord::Given(n) => {
+            answer(word, clock, n);
+        }
         RateWord::TooLong => complain(b"plan: the rate has more than 15 digits\n"),
-        RateWord::NotANumber => complain(
-            b"plan: the rate is not a whole number in decimal digits\n",
-        ),
+        RateWord::NotANumber => {
+            complain(b"plan: the rate is not a whole number in decimal digits\n")
+        }
     }
 }
 
@@ -119,29 +123,38 @@ fn ask(clock: &[u8], rate: &[u8]) {
     }
 }
 
-// A fixed clock at each rate.
-fn table(word: &[u8], clock: Clock) {
-    answer(word, clock, 9600);
-    answer(word, clock, 19200);
-    answer(word, clock, 38400);
-    answer(word, clock, 57600);
-    answer(word, clock, 115200);
+// A fixed clock at each rate, as far as it can be written.
+fn table(word: &[u8], clock: Clock) -> bool {
+    answer(word, clock, 9600)
+        && answer(word, clock, 19200)
+        && answer(word, clock, 38400)
+        && answer(word, clock, 57600)
+        && answer(word, clock, 115200)
 }
 
 fn main() {
-    let words = os::arg_count();
-    if words == 1 {
-        table(b"8", Clock::Fixed8);
-        table(b"7.3728", Clock::Fixed7);
+    let count = os::arg_count();
+    if count == 1 {
+        if table(b"8", Clock::Fixed8) {
+            table(b"7.3728", Clock::Fixed7);
+        }
         return;
     }
-    if words != 3 {
+    if count != 3 {
         complain(b"plan: usage: plan [CLOCK RATE], the clock 8, 7.3728 or a number of hertz\n");
         return;
     }
     let mut clock = io::buffer();
     let mut rate = io::buffer();
     let n = os::arg(1, &mut clock);
+    if os::errno() != 0 {
+        os::fail(b"plan: the clock");
+        return;
+    }
     let m = os::arg(2, &mut rate);
+    if os::errno() != 0 {
+        os::fail(b"plan: the rate");
+        return;
+    }
     ask(&clock[..n], &rate[..m]);
 }

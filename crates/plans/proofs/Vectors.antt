@@ -10,7 +10,7 @@ use Rattle.rates.specs.declared.Clock.the-variants.{Fixed8, Fixed7, External}
 use Rattle.rates.specs.declared.Planned.{Planned}
 use Rattle.rates.specs.Clocks.{float, hertz, inRange, isTaken}
 use Rattle.rates.specs.Rates.{isListed, reachedAt, apart, planAt}
-use Rattle.rates.specs.Plans.{planned}
+use Rattle.rates.specs.Plans.{answerWith, planned}
 use Rattle.rates.specs.Search.{nearer, bestUpTo, searched}
 use Rattle.rates.proofs.Answers.{searched-is}
 
@@ -20,21 +20,22 @@ pub record Row : Type 0 where
   pub rate : ℕ
   pub answer : Planned
 
-abbrev row : Clock → ℕ → Planned → Row
+abbrev pub row : Clock → ℕ → Planned → Row
 row c rate a = record { clock = c; rate = rate; answer = a }
 
 -- an external clock by its pattern
-abbrev at : ℕ → Clock
+abbrev pub at : ℕ → Clock
 at b = External (ofBits binary64 b)
 
 -- an answer by its number, its divider and the patterns of its reached rate and its distance
-abbrev answered : ℕ → ℕ → ℕ → ℕ → Planned
+abbrev pub answered : ℕ → ℕ → ℕ → ℕ → Planned
 answered n k reached distance = record { refusal = n; plan = record { reached = ofBits binary64 reached; distance = ofBits binary64 distance; divider = k } }
 
-abbrev plan : ℕ → ℕ → ℕ → Planned
+-- a plan that is made, and a refused one
+abbrev pub plan : ℕ → ℕ → ℕ → Planned
 plan = answered 0
 
-abbrev refused : ℕ → Planned
+abbrev pub refused : ℕ → Planned
 refused n = answered n 0 0x0000000000000000 0x0000000000000000
 
 -- each row is planned so
@@ -64,7 +65,7 @@ fixed =
     ∷ []
 
 pub fixed-hold : Holds fixed
-unfolding fixed float hertz inRange isTaken isListed reachedAt apart planAt nearer bestUpTo searched div sub lt le ofInt ofBits
+unfolding fixed float hertz inRange isTaken isListed reachedAt apart planAt nearer bestUpTo answerWith searched div sub lt le ofInt ofBits
 fixed-hold = by-search fixed refl
 
 -- external clocks: both ends of the range, an exact tie, and a tie that rounding alone makes (about 4,837,180.95 hertz, where 31 is nearer before rounding): the smaller divider
@@ -77,10 +78,10 @@ external =
     ∷ []
 
 pub external-hold : Holds external
-unfolding external float hertz inRange isTaken isListed reachedAt apart planAt nearer bestUpTo searched div sub lt le ofInt ofBits
+unfolding external float hertz inRange isTaken isListed reachedAt apart planAt nearer bestUpTo answerWith searched div sub lt le ofInt ofBits
 external-hold = by-search external refl
 
--- the refusals: the patterns next to the range, its ends, NaN, infinities, zeros, the smallest subnormal, a negative; rates next to listed ones; both at once
+-- the refusals: the patterns next to the range, NaN, infinities, zeros, the smallest subnormal, a negative; rates next to listed ones, and 0; both wrong at once
 unfoldable pub refusals : List Row
 refusals =
     row (at 0x413E847FFFFFFFFF) 9600 (refused 9)
@@ -99,5 +100,5 @@ refusals =
     ∷ []
 
 pub refusals-hold : Holds refusals
-unfolding refusals float hertz inRange isTaken isListed reachedAt apart planAt nearer bestUpTo searched div sub lt le ofInt ofBits
+unfolding refusals float hertz inRange isTaken isListed reachedAt apart planAt nearer bestUpTo answerWith searched div sub lt le ofInt ofBits
 refusals-hold = by-search refusals refl

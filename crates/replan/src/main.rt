@@ -136,9 +136,9 @@ fn take_records(records: &[u8], count: usize, out: &mut [u8]) -> usize
     count
 }
 
-// The end of a batch that is broken. A program has no exit status: the line on standard error says it.
-fn broken() -> bool {
-    io::write_all(STDERR_FILENO, b"replan: a record is not well formed\n");
+// The end of a batch that something is wrong with. A program has no exit status: the line on standard error says it.
+fn end(why: &[u8]) -> bool {
+    io::write_all(STDERR_FILENO, why);
     false
 }
 
@@ -147,11 +147,13 @@ fn take_some(input: &mut [u8; INPUT], out: &mut [u8; OUTPUT]) -> bool {
     let n = io::read_full(STDIN_FILENO, input);
     let count = n / RECORD;
     let done = take_records(input, count, out);
-    let written = io::write_all(STDOUT_FILENO, slices::first(out, done * ANSWER));
-    if done < count || n % RECORD != 0 {
-        return broken();
+    if !io::write_all(STDOUT_FILENO, slices::first(out, done * ANSWER)) {
+        return end(b"replan: standard output cannot be written\n");
     }
-    written && n == INPUT
+    if done < count || n % RECORD != 0 {
+        return end(b"replan: a record is not well formed\n");
+    }
+    n == INPUT
 }
 
 // A proved loop has to end, and nothing says that the input does: so the loop counts its turns down, from a number that no batch uses up.
