@@ -4,20 +4,20 @@ use crate::change::{begins_function, indent, lines};
 use std::path::Path;
 use std::process::Command;
 
-/// The crates whose definitions are changed, in the order of their proofs, and those that judge them.
-const CRATES: [&str; 8] = [
-    "slices", "packets", "flash", "unit", "protocol", "rates", DEMANDS, PLANS,
+/// The crates whose definitions are changed and those under them, in the order of their proofs, and the judges.
+const CRATES: [&str; 10] = [
+    "slices", "packets", "flash", "unit", "protocol", "lines", "rates", "demands", "plans", "words",
 ];
 
-const DEMANDS: &str = "demands";
-const PLANS: &str = "plans";
+/// The crates whose proofs judge changes to definitions.
+const JUDGES: [&str; 3] = ["demands", "plans", "words"];
 
-/// The crate whose proof judges a change to a definition of this one.
+/// The one that judges a change to a definition of this crate.
 pub fn judge_of(name: &str) -> &'static str {
-    if name == "rates" {
-        PLANS
-    } else {
-        DEMANDS
+    match name {
+        "rates" => "plans",
+        "words" => "words",
+        _ => "demands",
     }
 }
 
@@ -106,7 +106,7 @@ fn without_functions(text: &str) -> String {
     kept.join("\n") + "\n"
 }
 
-/// A house in which only laws, tables, demands and plans are proved, and where they are.
+/// A house in which only laws, tables and theorems are proved, and where they are.
 pub fn laws_only(root: &Path, to: &Path) -> Result<(), String> {
     told(to, std::fs::create_dir_all(to.join("crates")))?;
     for name in CRATES {
@@ -132,7 +132,7 @@ pub fn laws_only(root: &Path, to: &Path) -> Result<(), String> {
         .filter(|line| CRATES.iter().any(|c| line.split(':').next() == Some(c)))
         .collect();
     told(&list, std::fs::write(&list, kept.join("\n") + "\n"))?;
-    for judge in [DEMANDS, PLANS] {
+    for judge in JUDGES {
         if !check(to, judge)? {
             return Err(format!(
                 "the laws alone are not proved: {}",

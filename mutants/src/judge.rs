@@ -82,6 +82,7 @@ fn run(root: &Path, room: &Path, change: &Change) -> Result<(String, bool), Stri
     let said = Command::new("sh")
         .arg(root.join("tools/differs"))
         .arg(room)
+        .arg(&change.name)
         .output()
         .map_err(|e| format!("tools/differs: {e}"))?;
     let told = String::from_utf8_lossy(&said.stdout).trim().to_string();

@@ -1,10 +1,10 @@
 -- A number that is typed in 15 digits at most is read as the number that its digits stand for, and the power of ten of its decimals: what is read so far stands
 -- before the digits that are left, whose places it does not change, and 15 digits stay under the limit. And whatever is typed, both numbers that are read are below 2 ^ 53.
-use mathlib.Core.Path.{_≡_, refl, sym, ap, _∙_, subst}
-use mathlib.Core.Bool.{Bool, true, false, _&&_, cond}
+use mathlib.Core.Path.{_≡_, refl, sym, ap, _∙_}
+use mathlib.Core.Bool.{true, _&&_}
 use mathlib.Core.List.{List, [], _∷_, _++_}
 use Prim.Native.Nat.{ℕ, zero, suc, _+_, _-_, _*_, _^_, _≤_, _<_}
-use native.Mathlib.Nat.{pow-suc, mul-assoc, add-mul, mul-comm, mul-left-comm, mul-le-mul-right, add-assoc}
+use native.Mathlib.Nat.{pow-suc, mul-assoc, add-mul, mul-comm, mul-le-mul-right}
 use native.Mathlib.Omega.{arith}
 use borrow.Author.Tests.{le-leb, le-ltb, leb-true, ltb-false}
 use lib.Dec.{ltb, leb, eqb, lit≤}
