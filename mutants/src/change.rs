@@ -9,7 +9,7 @@ pub struct Change {
     pub item: String,
     pub old: String,
     pub new: String,
-    /// Judged by laws, tables and demands, not by the functions' proofs.
+    /// Judged by laws, tables and theorems, not by the functions' proofs.
     pub laws_only: bool,
 }
 

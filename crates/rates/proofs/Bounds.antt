@@ -79,6 +79,10 @@ module _ (lo hi : ℕ) (x : Float) (w : Within lo hi x) (n : ℕ) (p : 0 < n) (h
   divisor-above : 0 < num (float n) * den x
   divisor-above = mul-pos (num-above (float n) whole) (den-pos x)
 
+  -- c, over the quotient's own divisor
+  scaled : (c : ℕ) → c * (num (float n) * den x) ≡ c * n * (den x * den (float n))
+  scaled c = ap (λ (z : ℕ). c * (z * den x)) whole-is ∙ simp (mul-assoc, mul-comm, mul-left-comm)
+
   div-most : (c : ℕ) → hi ≤ c * n → T (le (div binary64 x (float n)) (float c))
   div-most c k =
       let d = den x in
@@ -86,8 +90,7 @@ module _ (lo hi : ℕ) (x : Float) (w : Within lo hi x) (n : ℕ) (p : 0 < n) (h
       let a : num x * e ≤ hi * d * e = mul-le-mul-right e (w .most) in
       let b : hi * (d * e) ≤ c * n * (d * e) = mul-le-mul-right (d * e) k in
       let f : hi * d * e ≡ hi * (d * e) = mul-assoc hi d e in
-      let g : c * n * (d * e) ≡ c * (n * e * d) = simp (mul-assoc, mul-comm, mul-left-comm) in
-      let i : c * (num (float n) * d) ≡ c * (n * e * d) = ap (λ (z : ℕ). c * (z * d)) whole-is in
+      let g : c * (num (float n) * d) ≡ c * n * (d * e) = scaled c in
       subst (λ (z : Float). T (le z (float c))) (sym (div-is x (float n) (w .above-zero) whole))
       (rounded-most (num x * e) (num (float n) * d) c divisor-above (omega arith))
 
@@ -98,8 +101,7 @@ module _ (lo hi : ℕ) (x : Float) (w : Within lo hi x) (n : ℕ) (p : 0 < n) (h
       let a : lo * d * e ≤ num x * e = mul-le-mul-right e (w .least) in
       let b : c * n * (d * e) ≤ lo * (d * e) = mul-le-mul-right (d * e) k in
       let f : lo * d * e ≡ lo * (d * e) = mul-assoc lo d e in
-      let g : c * n * (d * e) ≡ c * (n * e * d) = simp (mul-assoc, mul-comm, mul-left-comm) in
-      let i : c * (num (float n) * d) ≡ c * (n * e * d) = ap (λ (z : ℕ). c * (z * d)) whole-is in
+      let g : c * (num (float n) * d) ≡ c * n * (d * e) = scaled c in
       subst (λ (z : Float). T (le (float c) z)) (sym (div-is x (float n) (w .above-zero) whole))
       (rounded-least (num x * e) (num (float n) * d) c divisor-above (omega arith))
 

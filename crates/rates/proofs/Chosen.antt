@@ -1,4 +1,4 @@
--- The nearest plan is the one with the divider that document 02's words name: that divider's distance is at most each other's, and a smaller one's is not, being above it.
+-- The nearest plan is the one with the divider that document 02's words name: that divider's distance is at most each other's, and a smaller one's is not, being above it. So no second plan is nearest.
 use mathlib.Core.Path.{_≡_, refl, sym, ap, _∙_, subst}
 use mathlib.Core.Bool.{Bool, true, false, cond}
 use Prim.Native.Nat.{ℕ, zero, suc, _+_, _≤_, _<_}

@@ -6,7 +6,7 @@ use lib.IntN.{ℤ}
 use lib.Ieee.{Float, fin, binary64, le, ofBits, toBits}
 use Rattle.rates.specs.Clocks.{float}
 
--- finite, with the sign plus, at most 1,250,000 (what the divider 0 reaches at 20,000,000, far above most plans), and the value of exactly one pattern of 64 bits
+-- finite, with the sign plus, at most 1,250,000 (what the divider 0 reaches at 20,000,000, far above every plan), and the value of exactly one pattern of 64 bits
 pub record Plain (x : Float) : Type 0 where
   pub digits : ℕ
   pub exponent : ℤ

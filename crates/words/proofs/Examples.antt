@@ -34,8 +34,10 @@ clocks =
     ∷ row "8.0" (clock.Given (External (ofBits binary64 0x4020000000000000)))
     ∷ row "0" (clock.Given (External (ofBits binary64 0x0000000000000000)))
     ∷ row "999999999999999" (clock.Given (External (ofBits binary64 0x430C6BF52633FFF8)))
+    ∷ row "0000000000008000000" (clock.Given (External (ofBits binary64 0x415E848000000000)))
+    ∷ row "0.00000000000001" (clock.Given (External (ofBits binary64 0x3D06849B86A12B9B)))
+    ∷ row "0.123456789012345" clock.TooLong
     ∷ row "1000000000000000" clock.TooLong
-    ∷ row "0.0000000000000001" clock.TooLong
     ∷ row "" clock.NotANumber
     ∷ row "8." clock.NotANumber
     ∷ row ".5" clock.NotANumber
