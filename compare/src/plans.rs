@@ -119,42 +119,25 @@ fn ask(programs: &Programs, asks: &[Ask]) -> Result<(Vec<Plan>, Vec<Plan>), Stri
     Ok((plans(&port), plans(&reference)))
 }
 
-fn typed_rows(programs: &Programs) -> Result<bool, String> {
-    let rows = plan_rows::all();
+/// Holds both programs' plans to what rows say of them; `what` names the rows.
+fn hold<T>(
+    programs: &Programs,
+    what: &str,
+    rows: &[(Ask, T)],
+    is_right: impl Fn(&Ask, &T, &Plan) -> bool,
+) -> Result<bool, String> {
     let asks: Vec<Ask> = rows.iter().map(|row| row.0).collect();
     let (port, reference) = ask(programs, &asks)?;
     let mut good = true;
     for (who, plans) in [("planner", &port), ("reference", &reference)] {
-        for ((asked, typed), plan) in rows.iter().zip(plans) {
-            if plan != typed {
-                println!("typed plan: {who}: {asked:X?}: {plan:X?}");
+        for ((asked, said), plan) in rows.iter().zip(plans) {
+            if !is_right(asked, said, plan) {
+                println!("{what}: {who}: {asked:X?}: {plan:X?}");
                 good = false;
             }
         }
     }
-    println!("plans: {} typed rows, by both programs", rows.len());
-    Ok(good)
-}
-
-/// A plan that is more than 5 per cent off does not work: this gives source document 000's Table 3.3.1.
-fn source_table(programs: &Programs) -> Result<bool, String> {
-    let entries = plan_rows::table();
-    let asks: Vec<Ask> = entries.iter().map(|entry| entry.0).collect();
-    let (port, reference) = ask(programs, &asks)?;
-    let mut good = true;
-    for (who, plans) in [("planner", &port), ("reference", &reference)] {
-        for ((asked, works), plan) in entries.iter().zip(plans) {
-            if plan.refusal != 0 || plan.is_far(asked.rate) == *works {
-                let hertz = f64::from_bits(asked.frequency);
-                println!("source table: {who}: {hertz} Hz, {}: {plan:X?}", asked.rate);
-                good = false;
-            }
-        }
-    }
-    println!(
-        "plans: {} entries of source document 000's Table 3.3.1, by both programs",
-        entries.len()
-    );
+    println!("{what}: {} by both programs", rows.len());
     Ok(good)
 }
 
@@ -219,8 +202,16 @@ fn follow(events: &mut Events, asked: &Ask, plan: &Plan) {
 }
 
 pub fn compare(programs: &Programs, count: usize, seed: u64) -> Result<bool, String> {
-    let mut good = typed_rows(programs)?;
-    good &= source_table(programs)?;
+    let typed = plan_rows::all();
+    let table = plan_rows::table();
+    let mut good = hold(programs, "typed plans", &typed, |_, wanted, plan| {
+        plan == wanted
+    })?;
+    // a plan that is more than 5 per cent off does not work
+    let title = "entries of source document 000's Table 3.3.1";
+    good &= hold(programs, title, &table, |asked, works, plan| {
+        plan.refusal == 0 && plan.is_far(asked.rate) != *works
+    })?;
     let mut random = Random::new(seed);
     let mut events = Events::default();
     let mut done = 0;

@@ -18,9 +18,9 @@ use Rattle.rates.specs.Plans.{bestDivider, plusZero, madePlan, refusedWi
 use Rattle.rates.specs.Search.{bestUpTo, searched}
 use Rattle.rates.specs.Nearest.{Nearest}
 use Rattle.rates.specs.Answers.{Taken, Listed, Refused, Answer, plan-made, clock-refused, rate-refused}
-use Rattle.rates.proofs.Tests.{holds, not-both}
-use Rattle.rates.proofs.Order.{Real, le-left-real}
-use Rattle.rates.proofs.Bounds.{ClockWithin, within, distance-most}
+use Rattle.rates.proofs.Tests.{holds, refuted, not-both}
+use Rattle.rates.proofs.Order.{Real}
+use Rattle.rates.proofs.Bounds.{ClockWithin, within, distance-real}
 use Rattle.rates.proofs.Chosen.{nearest-is, search-finds, chosen-nearest}
 
 -- ---- the clock
@@ -32,7 +32,7 @@ taken-in-range Fixed8 = refl
 taken-in-range Fixed7 = refl
 taken-in-range (External f) = refl
 
-in-range : (f : Float) → inRange f ≡ true → (le (float 2000000) f ≡ true) × (le f (float 20000000) ≡ true)
+in-range : (f : Float) → inRange f ≡ true → Taken (External f)
 unfolding inRange
 in-range f e =
     (is-true _ (and-l (le (float 2000000) f) (le f (float 20000000)) (holds e)), is-true _ (and-r (le (float 2000000) f) (le f (float 20000000)) (holds e)))
@@ -97,7 +97,7 @@ refused-is n a r =
 module _ (c : Clock) (rate : ℕ) where
   module _ (t : isTaken c ≡ true) (l : isListed rate ≡ true) where
     all-real : (j : ℕ) → j ≤ 255 → Real (farness (hertz c) rate j)
-    all-real j h = le-left-real (farness (hertz c) rate j) (float 1250000) (distance-most (hertz c) rate j (clock-within c t) (listed rate l) h)
+    all-real j h = distance-real (hertz c) rate j (clock-within c t) (listed rate l) h
 
     is-made : planned c rate ≡ madePlan (planAt (hertz c) rate (bestDivider (hertz c) rate))
     unfolding planned answerWith
@@ -149,16 +149,8 @@ module _ (c : Clock) (rate : ℕ) where
 
   no-other : (a : Planned) → Answer c rate a → a ≡ planned c rate
   no-other a (plan-made t l r n) = rebuilt a r ∙ made-is (taken-back c t) (listed-back rate l) (a .plan) n
-  no-other a (clock-refused t r) = refused-is 9 a r ∙ not-taken (no-taken (isTaken c) refl)
-    where
-      no-taken : (b : Bool) → isTaken c ≡ b → b ≡ false
-      no-taken true i = absurd (t (taken c i))
-      no-taken false i = refl
-  no-other a (rate-refused t l r) = refused-is 10 a r ∙ not-listed (taken-back c t) (no-listed (isListed rate) refl)
-    where
-      no-listed : (b : Bool) → isListed rate ≡ b → b ≡ false
-      no-listed true i = absurd (l (listed rate i))
-      no-listed false i = refl
+  no-other a (clock-refused t r) = refused-is 9 a r ∙ not-taken (refuted (isTaken c) (λ e. t (taken c e)))
+  no-other a (rate-refused t l r) = refused-is 10 a r ∙ not-listed (taken-back c t) (refuted (isListed rate) (λ e. l (listed rate e)))
 
   -- Item 7, whole: what is planned is the answer that its words ask for, and no other is
   pub plans-exactly : (a : Planned) → (a ≡ planned c rate) ↔ Answer c rate a

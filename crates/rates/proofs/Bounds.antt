@@ -17,7 +17,7 @@ use Rattle.rates.specs.Clocks.{float}
 use Rattle.rates.specs.Rates.{reachedAt, apart, planAt, farness}
 use Rattle.rates.specs.Answers.{Listed}
 use Rattle.rates.proofs.Tests.{holds, fails}
-use Rattle.rates.proofs.Order.{Real, lt→le, not-lt→le}
+use Rattle.rates.proofs.Order.{Real, lt→le, not-lt→le, le-left-real}
 
 -- ---- whole numbers as floats
 
@@ -209,6 +209,9 @@ module _ (f : Float) (rate k : ℕ) (w : ClockWithin f) (l : Listed rate) (h : k
       distance-is (λ (x : Float). T (le x (float 1250000)))
       (λ g. sub-most (float rate) (reachedAt f k) (wanted-within .above-zero) (reached-within .above-zero) g 1250000 (let m : num (float rate) ≤ 115200 * den (float rate) = wanted-within .most in omega arith))
       (λ g. sub-most (reachedAt f k) (float rate) (reached-within .above-zero) (wanted-within .above-zero) g 1250000 (reached-within .most))
+
+  pub distance-real : Real (farness f rate k)
+  distance-real = le-left-real (farness f rate k) (float 1250000) distance-most
 
   pub distance-rounds : Rounds (farness f rate k)
   distance-rounds =

@@ -13,7 +13,7 @@ use Rattle.rates.specs.Rates.{planAt, farness}
 use Rattle.rates.specs.Plans.{maxDivider, atMostAll, isLeast, firstLeast, bestDivider}
 use Rattle.rates.specs.Search.{bestUpTo}
 use Rattle.rates.specs.Nearest.{Nearest}
-use Rattle.rates.proofs.Tests.{holds, not-both}
+use Rattle.rates.proofs.Tests.{holds, refuted, not-both}
 use Rattle.rates.proofs.Order.{Real, le→not-lt}
 use Rattle.rates.proofs.Least.{up-to, search-nearest}
 
@@ -56,14 +56,10 @@ module _ (f : Float) (rate : ℕ) where
 
     no-smaller : (j : ℕ) → j < p .divider → isLeast f rate j ≡ false
     unfolding isLeast
-    no-smaller j h = go (isLeast f rate j) refl
-      where
-        go : (b : Bool) → isLeast f rate j ≡ b → b ≡ false
-        go false e = refl
-        go true e =
-            absurd
-            (not-both (ap (λ (d : Float). lt d (farness f rate j)) own-distance ∙ n .smallest j h)
-            (is-false _ (le→not-lt (farness f rate j) (farness f rate (p .divider)) (each-at-most (farness f rate j) maxDivider (holds e) (p .divider) (n .divides)))))
+    no-smaller j h =
+        refuted (isLeast f rate j) (λ e.
+        not-both (ap (λ (d : Float). lt d (farness f rate j)) own-distance ∙ n .smallest j h)
+        (is-false _ (le→not-lt (farness f rate j) (farness f rate (p .divider)) (each-at-most (farness f rate j) maxDivider (holds e) (p .divider) (n .divides)))))
 
     best-divider : bestDivider f rate ≡ p .divider
     unfolding bestDivider

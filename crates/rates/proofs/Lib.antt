@@ -1,5 +1,5 @@
 -- What the proofs of several functions use.
-mod Tests
+pub mod Tests
 mod Steps
 mod Order
 mod Bounds

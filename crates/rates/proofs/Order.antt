@@ -2,7 +2,7 @@
 -- beyond all of them, and a NaN compares with nothing. lib.Ieee has such laws for values above zero alone; these hold for zeros, both signs and infinities.
 use mathlib.Core.Path.{_≡_, sym, subst}
 use mathlib.Core.Logic.{⊎-elim}
-use mathlib.Core.Bool.{Bool, true, false, not, _&&_, _||_, Bool·beq}
+use mathlib.Core.Bool.{Bool, true, false, not, _||_, Bool·beq}
 use Prim.Native.Nat.{ℕ, _+_, _*_, _≤_, _<_}
 use native.Mathlib.Nat.{lt-of-lt-of-le, lt-of-le-of-lt, le-of-eq, mul-right-comm, mul-pos, mul-le-mul-right, mul-lt-mul-of-pos-right, lt-of-mul-lt-mul-right, eq-zero-or-pos}
 use native.Mathlib.Omega.{arith}
@@ -17,8 +17,8 @@ abbrev pub Real : Float → Type 0
 Real x = T (not (isNan x))
 
 -- x / e < z / d and z / d ≤ y / g
-chain : (x y z d e g : ℕ) → 0 < d → 0 < e → 0 < g → x * d < z * e → z * g ≤ y * d → x * g < y * e
-chain x y z d e g D E G h k =
+chain : (x y z d e g : ℕ) → 0 < g → x * d < z * e → z * g ≤ y * d → x * g < y * e
+chain x y z d e g G h k =
     lt-of-mul-lt-mul-right d
     (lt-of-le-of-lt (le-of-eq (mul-right-comm x g d))
     (lt-of-lt-of-le (mul-lt-mul-of-pos-right h G)
@@ -28,8 +28,8 @@ chain x y z d e g D E G h k =
     le-through p q r = omega arith
 
 -- the same from the other end: y / g ≤ z / d < x / e
-chain′ : (x y z d e g : ℕ) → 0 < d → 0 < e → 0 < g → z * e < x * d → y * d ≤ z * g → y * e < x * g
-chain′ x y z d e g D E G h k =
+chain′ : (x y z d e g : ℕ) → 0 < g → z * e < x * d → y * d ≤ z * g → y * e < x * g
+chain′ x y z d e g G h k =
     lt-of-mul-lt-mul-right d (joins (mul-right-comm y e d) (mul-le-mul-right e k) (mul-right-comm z g e) (mul-lt-mul-of-pos-right h G) (mul-right-comm x d g))
   where
     joins : {a b c p q r : ℕ} → a ≡ b → b ≤ c → c ≡ p → p < q → q ≡ r → a < r
@@ -48,7 +48,7 @@ zero-of x d D e = ⊎-elim (λ z. z) (λ p. let q = mul-pos p D in absurd (omega
 over : (s t u : Bool) (x y z d e g : ℕ) → 0 < d → 0 < e → 0 < g → T (below s (x * d) t (z * e)) → T (not (below u (y * d) t (z * g))) → T (below s (x * g) u (y * e))
 over false true u x y z d e g D E G h k = absurd h
 over false false false x y z d e g D E G h k =
-    lt→ltb (x * g) (y * e) (chain x y z d e g D E G (ltb→lt (x * d) (z * e) h) (nltb→le (y * d) (z * g) k))
+    lt→ltb (x * g) (y * e) (chain x y z d e g G (ltb→lt (x * d) (z * e) h) (nltb→le (y * d) (z * g) k))
 over false false true x y z d e g D E G h k =
     let a : x * d < z * e = ltb→lt (x * d) (z * e) h in
     let b : y * d + z * g ≤ 0 = nltb→le 0 (y * d + z * g) k in
@@ -83,10 +83,10 @@ over true true false x y z d e g D E G h k =
     let q : 0 < x * g = mul-pos (first-pos x d (omega arith)) G in
     lt→ltb 0 (x * g + y * e) (omega arith)
 over true true true x y z d e g D E G h k =
-    lt→ltb (y * e) (x * g) (chain′ x y z d e g D E G (ltb→lt (z * e) (x * d) h) (nltb→le (z * g) (y * d) k))
+    lt→ltb (y * e) (x * g) (chain′ x y z d e g G (ltb→lt (z * e) (x * d) h) (nltb→le (z * g) (y * d) k))
 
 -- x < z and not y < z: x < y
-lt-below : (x y z : Float) → T (lt x z) → T (not (lt y z)) → T (not (isNan y)) → T (lt x y)
+lt-below : (x y z : Float) → T (lt x z) → T (not (lt y z)) → Real y → T (lt x y)
 unfolding lt isNan
 lt-below nan y z h k n = absurd h
 lt-below (inf s) nan z h k n = absurd n
@@ -205,11 +205,8 @@ pub le→not-lt : (x y : Float) → T (le x y) → T (not (lt y x))
 unfolding le lt eq
 le→not-lt nan y h = absurd h
 le→not-lt (inf s) nan h = tt
-le→not-lt (inf false) (inf t) h = le-inf t h
-  where
-    le-inf : (t : Bool) → T (false || Bool·beq false t) → T (not (t && true))
-    le-inf false h = tt
-    le-inf true h = absurd h
+le→not-lt (inf false) (inf false) h = tt
+le→not-lt (inf false) (inf true) h = absurd h
 le→not-lt (inf true) (inf false) h = tt
 le→not-lt (inf true) (inf true) h = tt
 le→not-lt (inf false) (fin t n d) h = absurd h

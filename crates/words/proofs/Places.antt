@@ -92,7 +92,7 @@ decimal-one : (st : State) (n s b : ℕ) → ((r : Reading) (d : ℕ) → digitI
 unfolding readByte decimalDigit
 decimal-one st n s b lead l h i j = rw (digit-is b l h, lead, le-ltb most n i, le-ltb most s j)
 
--- the digits of a number before its point, from the state st on
+-- digits before the point, where those so far made n
 wholes : (bs : List ℕ) (n s : ℕ) → Digits bs → n * 10 ^ length bs + value bs < 10 ^ 15 → readFrom (reading n s Whole) bs ≡ reading (n * 10 ^ length bs + value bs) s Whole
 wholes [] n s ds h = let e : n ≡ n * 1 + 0 = omega arith in ap (λ (x : ℕ). reading x s Whole) e
 wholes (b ∷ bs) n s ds h =
@@ -103,6 +103,7 @@ wholes (b ∷ bs) n s ds h =
     ∙ wholes bs (n * 10 + (b - 0x30)) s (ds .2) (omega arith)
     ∙ ap (λ (x : ℕ). reading x s Whole) e
 
+-- digits after it, where all so far made n, and the decimals among them s
 decimals : (bs : List ℕ) (n s : ℕ) → Digits bs → n * 10 ^ length bs + value bs < 10 ^ 15 → s * 10 ^ length bs ≤ 10 ^ 14
     → readFrom (reading n s Decimals) bs ≡ reading (n * 10 ^ length bs + value bs) (s * 10 ^ length bs) Decimals
 decimals [] n s ds h i =
@@ -124,7 +125,7 @@ from-append : (r : Reading) (fs bs : List ℕ) → readFrom r (fs ++ bs) ≡ rea
 from-append r [] bs = refl
 from-append r (f ∷ fs) bs = from-append (readByte r f) fs bs
 
-text-append : (fs bs : List ℕ) → readText (fs ++ bs) ≡ readFrom (readText fs) bs
+pub text-append : (fs bs : List ℕ) → readText (fs ++ bs) ≡ readFrom (readText fs) bs
 unfolding readText
 text-append fs bs = from-append started fs bs
 

@@ -78,6 +78,7 @@ fn decimal_digit(r: Reading, d: u8) -> Reading
     }
 }
 
+// The state is that of r: it stands beside it because a match wants a variable, here and below.
 fn digit_in(state: State, r: Reading, d: u8) -> Reading
     ensures { λ q. ⌜ q ≡ digitIn state r d ⌝ }
 {

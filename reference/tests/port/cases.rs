@@ -1,7 +1,6 @@
 //! The case format, with cases built by hand here.
 
-use crate::support::{framed, in_packet, WRONG_ID_PACKET};
-use reference::batch::Stop;
+use crate::support::{answered, framed, in_packet, WRONG_ID_PACKET};
 use reference::cases::replay;
 use reference::record::{decode, encode, Record, RECORD_LEN};
 use reference::{Command, Unit};
@@ -118,18 +117,15 @@ impl Case {
 }
 
 fn answer(batch: &[u8]) -> Vec<u8> {
-    let mut output = Vec::new();
-    replay(&mut &batch[..], &mut output).expect("a well-formed batch");
+    let (output, bad) = answered(|i, o| replay(i, o), batch);
+    assert_eq!(bad, None);
     output
 }
 
 /// What is written for a batch that is not well formed, and the number of the bad case.
 fn stopped(batch: &[u8]) -> (Vec<u8>, u64) {
-    let mut output = Vec::new();
-    match replay(&mut &batch[..], &mut output) {
-        Err(Stop::Malformed(number)) => (output, number),
-        other => panic!("{other:?}"),
-    }
+    let (output, bad) = answered(|i, o| replay(i, o), batch);
+    (output, bad.expect("a bad case"))
 }
 
 fn record(head: Head, collected: u8) -> Record {

@@ -1,7 +1,6 @@
 //! The format of plans, with records built by hand here.
 
-use crate::support::{plan_bits, PLAN_ANSWERS, PLAN_RECORDS, RATES};
-use reference::batch::Stop;
+use crate::support::{answered, plan_bits, PLAN_ANSWERS, PLAN_RECORDS, RATES};
 use reference::plan::Clock;
 use reference::plans::replan;
 use std::io::{self, Read};
@@ -36,18 +35,15 @@ fn expected(clock: Clock, rate: u32) -> Vec<u8> {
 }
 
 fn answer(batch: &[u8]) -> Vec<u8> {
-    let mut output = Vec::new();
-    replan(&mut &batch[..], &mut output).expect("a well-formed batch");
+    let (output, bad) = answered(|i, o| replan(i, o), batch);
+    assert_eq!(bad, None);
     output
 }
 
 /// What is written for a batch that is not well formed, and the number of the bad record.
 fn stopped(batch: &[u8]) -> (Vec<u8>, u64) {
-    let mut output = Vec::new();
-    match replan(&mut &batch[..], &mut output) {
-        Err(Stop::Malformed(number)) => (output, number),
-        other => panic!("{other:?}"),
-    }
+    let (output, bad) = answered(|i, o| replan(i, o), batch);
+    (output, bad.expect("a bad record"))
 }
 
 /// An input that gives one byte at a time.

@@ -2,7 +2,7 @@
 //! numbers, rounded step by step to the nearest pattern, of two equally near ones to the even one.
 //! No float operation takes part.
 
-use crate::support::{made_plan, RATES};
+use crate::support::{made_plan, Numbers, RATES};
 use reference::plan::Clock;
 
 /// Patterns of 2,000,000 and 20,000,000.
@@ -140,18 +140,6 @@ fn clocks_around(centre: Fraction, far: u64) -> impl Iterator<Item = u64> {
         .into_iter()
         .flatten()
         .filter(|clock| (LOWEST..=HIGHEST).contains(clock))
-}
-
-/// A small generator (xorshift), the same numbers every time.
-struct Numbers(u64);
-
-impl Numbers {
-    fn next(&mut self, below: u64) -> u64 {
-        self.0 ^= self.0 << 13;
-        self.0 ^= self.0 >> 7;
-        self.0 ^= self.0 << 17;
-        self.0 % below
-    }
 }
 
 #[test]

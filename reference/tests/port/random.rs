@@ -1,22 +1,12 @@
 //! Short made-up streams: laws that hold for every stream.
 
 use crate::support::{
-    barely_blank, is_protected, woken, CELLS, ID_ADDRESSES, ID_PACKET, WRONG_ID_PACKET,
+    barely_blank, is_protected, woken, Numbers, CELLS, ID_ADDRESSES, ID_PACKET, WRONG_ID_PACKET,
 };
 use reference::sessions::image;
 use reference::{byte, run, start, Command, Phase, Unit};
 
-/// A small generator (xorshift), the same numbers every time.
-struct Numbers(u32);
-
 impl Numbers {
-    fn next(&mut self, below: usize) -> usize {
-        self.0 ^= self.0 << 13;
-        self.0 ^= self.0 >> 17;
-        self.0 ^= self.0 << 5;
-        self.0 as usize % below
-    }
-
     /// Bytes that the protocol cares for, more often than others.
     fn stream(&mut self) -> Vec<u8> {
         let pieces: [&[u8]; 18] = [
@@ -45,7 +35,7 @@ impl Numbers {
                 let n = self.next(300);
                 stream.extend((0..n).map(|_| self.next(256) as u8));
             } else {
-                stream.extend_from_slice(pieces[self.next(pieces.len())]);
+                stream.extend_from_slice(pieces[self.next(pieces.len() as u64) as usize]);
             }
         }
         stream
@@ -83,7 +73,7 @@ fn a_run_equals_its_bytes_one_by_one() {
     for round in 0..40 {
         let protection = round % 16;
         let stream = numbers.stream();
-        let area_len = 256 + numbers.next(2000);
+        let area_len = 256 + numbers.next(2000) as usize;
         let mut image = image_of_round(round);
         let mut unit = start(&image, protection).1;
 

@@ -1,6 +1,7 @@
 //! What several of these files build on; its values are typed from the documents like the tests'
 //! own.
 
+use reference::batch::Stop;
 use reference::plan::{plan, Clock};
 use reference::sessions::Rig;
 use reference::{Command, Phase};
@@ -123,4 +124,29 @@ pub fn made_plan(clock: Clock, wanted: u32) -> (u8, u64, u64) {
     let (refusal, divider, reached, distance) = plan_bits(clock, wanted);
     assert_eq!(refusal, 0);
     (divider, reached, distance)
+}
+
+/// A small generator (xorshift), the same numbers every time.
+pub struct Numbers(pub u64);
+
+impl Numbers {
+    pub fn next(&mut self, below: u64) -> u64 {
+        self.0 ^= self.0 << 13;
+        self.0 ^= self.0 >> 7;
+        self.0 ^= self.0 << 17;
+        self.0 % below
+    }
+}
+
+/// What is written for a batch, and the number of its case or record that is not well formed.
+pub fn answered(
+    answer: impl FnOnce(&mut &[u8], &mut Vec<u8>) -> Result<(), Stop>,
+    mut batch: &[u8],
+) -> (Vec<u8>, Option<u64>) {
+    let mut output = Vec::new();
+    match answer(&mut batch, &mut output) {
+        Ok(()) => (output, None),
+        Err(Stop::Malformed(number)) => (output, Some(number)),
+        Err(Stop::Io(error)) => panic!("{error}"),
+    }
 }
