@@ -1,31 +1,42 @@
 -- The bridge from histories to the step: every clause is an equation, so each call of a history is one that the specification computes, and the history's trace is the run of the bytes that were taken.
-use Prim.Native.Nat.{ℕ, zero, suc, _≤_}
+use Prim.Native.Nat.{ℕ, suc}
 use mathlib.Core.Path.{_≡_, refl, ap, ap₂, sym, _∙_, subst⁻¹}
 use mathlib.Core.List.{List, [], _∷_, _++_}
 use lib.ListN.{length, take}
 use lib.Seq.{length-take-le}
-use Rattle.slices.specs.Lists.{Each, Bytes}
+use Rattle.packets.specs.Pieces.{Each as EachGiven}
+use Rattle.packets.specs.Readings.{Bytes as GivenBytes}
+use Rattle.slices.specs.Lists.{Bytes}
 use Rattle.slices.proofs.Lists.{bytes-take}
 use Rattle.unit.specs.declared.Unit.{Unit as Port}
 use Rattle.unit.specs.declared.Inputs.{Inputs}
 use Rattle.unit.specs.declared.Settings.{Settings}
 use Rattle.unit.specs.Model.{fresh}
-use Rattle.unit.proofs.Ranged.{Sound}
+use Rattle.unit.proofs.Ranged.{Sound, sound, in-range}
 use Rattle.unit.proofs.Builders.{sound-fresh, fresh-protection}
 use Rattle.protocol.specs.declared.Started.{Started}
 use Rattle.protocol.specs.Step.{run}
-use Rattle.protocol.specs.Calls.{Left, refused, startCall, byteCall, runCall}
-use Rattle.protocol.specs.Reasons.StartReason.{fine}
+use Rattle.protocol.specs.Calls.{Left}
+use Rattle.protocol.proofs.Reasons.StartReason.{fine}
 use Rattle.protocol.proofs.Sound.{sound-run, size-run, settings-run}
 use Rattle.protocol.proofs.Refusals.{start-exactly, start-done}
-use Rattle.demands.specs.Histories.{Call, brings, Answers, Entry, entriesFrom, Fronts, Goes, History, unitAfter, imageAfter, taken, At}
-use Rattle.demands.specs.Histories.Call.{byte, run as a-run}
-use Rattle.demands.specs.Histories.Fronts.{of-byte, of-run}
+use Rattle.demands.specs.Histories.{Call, brings, Answers, Entry, entriesFrom, Fronts, Goes, Calls, History, Fit, unitAfter, imageAfter, taken, At}
 use Rattle.demands.specs.Histories.Goes.{ends, goes}
+use Rattle.demands.proofs.Records.{in-range as range-is}
 use Rattle.demands.proofs.Traces.{Step, Stepped, stepped-append, entry-steps, taken-bytes, sound-after, size-after, unit-run, image-run}
 use Rattle.demands.proofs.Traces.Stepped.{done}
+use Rattle.demands.proofs.Exists.{leftOf, leftsOf, answers-left, frontsOf, fronts-are}
 use Rattle.demands.proofs.Entries.{stepsOf, steps-stepped, steps-long, steps-unit, steps-image, Called, call-is}
 use Rattle.demands.proofs.Entries.Called.{small, took}
+
+-- the bytes that a caller gives, as the crates below say it
+pub given-bytes : (bs : List ℕ) → GivenBytes bs → Bytes bs
+given-bytes [] y = tt
+given-bytes (b ∷ bs) y = (y .0, given-bytes bs (y .1))
+
+pub bytes-given : (bs : List ℕ) → Bytes bs → GivenBytes bs
+bytes-given [] y = tt
+bytes-given (b ∷ bs) y = (y .0, bytes-given bs (y .1))
 
 -- what a call leaves is the step's: the next unit is sound, the image keeps its size, and the entries are stepped and lead there
 module _ {m : ℕ} {u : Port} {img : List ℕ} {c : Call} {l : Left} {es : List Entry} where
@@ -72,17 +83,60 @@ pub data Went : ℕ → Port → List ℕ → List Call → List Left → List E
       → Sound u → length img ≡ 20480 → Bytes (brings c) → Called m u img c l es → Went (suc m) (l .answer .unit) (l .image) cs ls fs → Went m u img (c ∷ cs) (l ∷ ls) (es ++ fs)
 
 pub goes-went : {m : ℕ} {u : Port} {img : List ℕ} {cs : List Call} {ls : List Left} {es : List Entry}
-    → Sound u → length img ≡ 20480 → Each (λ (c : Call). Bytes (brings c)) cs → Goes m u img cs ls es → Went m u img cs ls es
+    → Sound u → length img ≡ 20480 → EachGiven (λ (c : Call). GivenBytes (brings c)) cs → Goes m u img cs ls es → Went m u img cs ls es
 goes-went s size y ends = stays
 goes-went {m} {u} {img} s size y (goes {c = c} {l = l} a f g) =
     let k = call-is m s img size {c = c} {l = l} a f in
-    calls s size (y .0) k (goes-went (called-sound s (y .0) k) (called-size k ∙ size) (y .1) g)
+    let b = given-bytes (brings c) (y .0) in
+    calls s size b k (goes-went (called-sound s b k) (called-size k ∙ size) (y .1) g)
 
 pub went-stepped : {m : ℕ} {u : Port} {img : List ℕ} {cs : List Call} {ls : List Left} {es : List Entry} → Went m u img cs ls es → Stepped u img es
 went-stepped stays = done
 went-stepped (calls s size y k w) = stepped-append (called-stepped y k) (called-unit k) (called-image k) (went-stepped w)
 
--- a history: its unit is the fresh one, and its trace is the run of its bytes
+-- calls on a unit in range and an image of the right size: their trace is the run of their bytes
+pub fit-sound : {u : Port} {img : List ℕ} → Fit u img → Sound u
+fit-sound {u} f = sound u (range-is u .0 (f .range)) (f .room) (given-bytes (u .collected) (f .bytes))
+
+module _ {u : Port} {img : List ℕ} {cs : List Call} (f : Fit u img) (c : Calls u img cs) where
+  pub went : Went 0 u img cs (c .lefts) (c .trace)
+  went = goes-went (fit-sound f) (f .size) (c .bytes) (c .goes)
+
+  pub stepped : Stepped u img (c .trace)
+  stepped = went-stepped went
+
+  -- after k bytes, whichever calls brought them
+  module _ (k : ℕ) where
+    pub unit-is : unitAfter u (c .trace) k ≡ run u img (take k (taken (c .trace))) .unit
+    unit-is = unit-run stepped k
+
+    pub image-is : imageAfter img (c .trace) k ≡ run u img (take k (taken (c .trace))) .image
+    image-is = image-run stepped k
+
+    pub sound-at : Sound (unitAfter u (c .trace) k)
+    sound-at = sound-after (fit-sound f) stepped k
+
+    pub size-at : length (imageAfter img (c .trace) k) ≡ 20480
+    size-at = size-after stepped k ∙ f .size
+
+    pub settings-at : unitAfter u (c .trace) k .settings ≡ u .settings
+    settings-at = ap (λ (u : Port). u .settings) unit-is ∙ settings-run u img (take k (taken (c .trace)))
+
+    pub protection-at : unitAfter u (c .trace) k .settings .protection ≡ u .settings .protection
+    protection-at = ap (λ (t : Settings). t .protection) settings-at
+
+  -- the entry at a position is the step from there
+  pub entry-is : {k : ℕ} {e : Entry} → At (c .trace) k e → Step (unitAfter u (c .trace) k) (imageAfter img (c .trace) k) e
+  entry-is a = entry-steps stepped a
+
+  pub bytes-are : Bytes (taken (c .trace))
+  bytes-are = taken-bytes stepped
+
+-- a sound unit is in range
+pub sound-fit : {u : Port} {img : List ℕ} → Sound u → length img ≡ 20480 → Fit u img
+sound-fit {u} s size = record { range = range-is u .1 (in-range s); room = s .room; bytes = bytes-given (u .collected) (s .bytes); size = size }
+
+-- a history: its unit is the fresh one, and in range
 module _ {img : List ℕ} {inputs : Inputs} {cs : List Call} (h : History img inputs cs) where
   pub start-is : h .started ≡ record { refusal = 0; unit = fresh img inputs }
   start-is = h .start ∙ start-done img inputs (start-exactly img inputs (fine (h .size) (h .protection)))
@@ -90,56 +144,13 @@ module _ {img : List ℕ} {inputs : Inputs} {cs : List Call} (h : History img in
   pub start-fresh : h .started .unit ≡ fresh img inputs
   start-fresh = ap (λ (r : Started). r .unit) start-is
 
-  pub start-sound : Sound (h .started .unit)
-  start-sound = subst⁻¹ Sound start-fresh (sound-fresh img inputs (h .protection))
+  pub start-protection : h .started .unit .settings .protection ≡ inputs .protection
+  start-protection = ap (λ (u : Port). u .settings .protection) start-fresh ∙ fresh-protection img inputs
 
-  pub went : Went 0 (h .started .unit) img cs (h .lefts) (h .trace)
-  went = goes-went start-sound (h .size) (h .bytes) (h .goes)
+  pub start-fit : Fit (h .started .unit) img
+  start-fit = sound-fit (subst⁻¹ Sound start-fresh (sound-fresh img inputs (h .protection))) (h .size)
 
-  pub stepped : Stepped (h .started .unit) img (h .trace)
-  stepped = went-stepped went
-
-  -- after k bytes, whichever calls brought them
-  module _ (k : ℕ) where
-    pub unit-is : unitAfter (h .started .unit) (h .trace) k ≡ run (h .started .unit) img (take k (taken (h .trace))) .unit
-    unit-is = unit-run stepped k
-
-    pub image-is : imageAfter img (h .trace) k ≡ run (h .started .unit) img (take k (taken (h .trace))) .image
-    image-is = image-run stepped k
-
-    pub sound-at : Sound (unitAfter (h .started .unit) (h .trace) k)
-    sound-at = sound-after start-sound stepped k
-
-    pub size-at : length (imageAfter img (h .trace) k) ≡ 20480
-    size-at = size-after stepped k ∙ h .size
-
-    pub settings-at : unitAfter (h .started .unit) (h .trace) k .settings ≡ h .started .unit .settings
-    settings-at = ap (λ (u : Port). u .settings) unit-is ∙ settings-run (h .started .unit) img (take k (taken (h .trace)))
-
-    pub protection-at : unitAfter (h .started .unit) (h .trace) k .settings .protection ≡ inputs .protection
-    protection-at =
-        ap (λ (t : Settings). t .protection) settings-at
-        ∙ (ap (λ (u : Port). u .settings .protection) start-fresh ∙ fresh-protection img inputs)
-
-  -- the entry at a position is the step from there
-  pub entry-is : {k : ℕ} {e : Entry} → At (h .trace) k e → Step (unitAfter (h .started .unit) (h .trace) k) (imageAfter img (h .trace) k) e
-  entry-is a = entry-steps stepped a
-
-  pub bytes-are : Bytes (taken (h .trace))
-  bytes-are = taken-bytes stepped
-
--- what each call of a list leaves, and the entries, as functions of the start and the calls
-abbrev pub leftOf : Port → List ℕ → Call → Left
-leftOf u img (byte b area) = byteCall u img area b
-leftOf u img (a-run bs area) = runCall u img bs area
-
-abbrev pub leftsOf : Port → List ℕ → List Call → List Left
-leftsOf u img [] = []
-leftsOf u img (c ∷ cs) =
-    let l = leftOf u img c in
-    let ls = leftsOf (l .answer .unit) (l .image) cs in
-    l ∷ ls
-
+-- the entries of calls, as a function of the unit and the image they begin with
 abbrev pub entriesOf : ℕ → Port → List ℕ → List Call → List Entry
 entriesOf m u img [] = []
 entriesOf m u img (c ∷ cs) =
@@ -147,20 +158,12 @@ entriesOf m u img (c ∷ cs) =
     let es = entriesOf (suc m) (l .answer .unit) (l .image) cs in
     stepsOf m 0 u img (take (l .answer .taken) (brings c)) ++ es
 
-answers-left : (u : Port) (img : List ℕ) (c : Call) (l : Left) → Answers u img c l → l ≡ leftOf u img c
-answers-left u img (byte b area) l a = a
-answers-left u img (a-run bs area) l a = a
-
-left-answers : (u : Port) (img : List ℕ) (c : Call) → Answers u img c (leftOf u img c)
-left-answers u img (byte b area) = refl
-left-answers u img (a-run bs area) = refl
-
 goes-is : {m : ℕ} {u : Port} {img : List ℕ} {cs : List Call} {ls : List Left} {es : List Entry}
-    → Sound u → length img ≡ 20480 → Each (λ (c : Call). Bytes (brings c)) cs → Goes m u img cs ls es → (ls ≡ leftsOf u img cs) × (es ≡ entriesOf m u img cs)
+    → Sound u → length img ≡ 20480 → EachGiven (λ (c : Call). GivenBytes (brings c)) cs → Goes m u img cs ls es → (ls ≡ leftsOf u img cs) × (es ≡ entriesOf m u img cs)
 goes-is s size y ends = (refl, refl)
 goes-is {m} {u} {img} s size y (goes {c = c} {cs = cs} {l = l} {ls = ls} {es = es} a f g) =
     let k = call-is m s img size {c = c} {l = l} a f in
-    let w = goes-is (called-sound s (y .0) k) (called-size k ∙ size) (y .1) g in
+    let w = goes-is (called-sound s (given-bytes (brings c) (y .0)) k) (called-size k ∙ size) (y .1) g in
     let e : l ≡ leftOf u img c = answers-left u img c l a in
     let more : Left → List Entry = λ x. stepsOf m 0 u img (take (x .answer .taken) (brings c)) ++ entriesOf (suc m) (x .answer .unit) (x .image) cs in (
       ap (λ (xs : List Left). l ∷ xs) (w .0) ∙ ap (λ (x : Left). x ∷ leftsOf (x .answer .unit) (x .image) cs) e,
@@ -169,43 +172,22 @@ goes-is {m} {u} {img} s size y (goes {c = c} {cs = cs} {l = l} {ls = ls} {es = e
 
 -- what a history left and took, by its image, inputs and calls alone
 module _ {img : List ℕ} {inputs : Inputs} {cs : List Call} (h : History img inputs cs) where
-  pub lefts-are : h .lefts ≡ leftsOf (fresh img inputs) img cs
-  lefts-are = goes-is (start-sound h) (h .size) (h .bytes) (h .goes) .0 ∙ ap (λ (u : Port). leftsOf u img cs) (start-fresh h)
+  goes-as : (h .calls .lefts ≡ leftsOf (h .started .unit) img cs) × (h .calls .trace ≡ entriesOf 0 (h .started .unit) img cs)
+  goes-as = goes-is (fit-sound (start-fit h)) (h .size) (h .calls .bytes) (h .calls .goes)
 
-  pub trace-is : h .trace ≡ entriesOf 0 (fresh img inputs) img cs
-  trace-is = goes-is (start-sound h) (h .size) (h .bytes) (h .goes) .1 ∙ ap (λ (u : Port). entriesOf 0 u img cs) (start-fresh h)
+  pub lefts-are : h .calls .lefts ≡ leftsOf (fresh img inputs) img cs
+  lefts-are = goes-as .0 ∙ ap (λ (u : Port). leftsOf u img cs) (start-fresh h)
+
+  pub trace-is : h .calls .trace ≡ entriesOf 0 (fresh img inputs) img cs
+  trace-is = goes-as .1 ∙ ap (λ (u : Port). entriesOf 0 u img cs) (start-fresh h)
 
 -- so two histories on the same image, inputs and calls left the same and took the same
-pub one-history : {img : List ℕ} {inputs : Inputs} {cs : List Call} (g h : History img inputs cs) → (g .lefts ≡ h .lefts) × (g .trace ≡ h .trace)
+pub one-history : {img : List ℕ} {inputs : Inputs} {cs : List Call} (g h : History img inputs cs)
+    → (g .calls .lefts ≡ h .calls .lefts) × (g .calls .trace ≡ h .calls .trace)
 one-history g h = (lefts-are g ∙ sym (lefts-are h), trace-is g ∙ sym (trace-is h))
 
--- every list of calls that bring bytes has a history
-fronts-of : (u : Port) (img : List ℕ) (c : Call) → (fronts : ℕ → Left) × Fronts u img c (leftOf u img c) fronts
-fronts-of u img (byte b area) = (fronts, of-byte refl refl)
-  where
-    fronts : ℕ → Left
-    fronts zero = refused 0 u img area
-    fronts (suc j) = byteCall u img area b
-fronts-of u img (a-run bs area) = ((λ j. runCall u img (take j bs) area), of-run (λ j q. refl))
-
-goes-on : (m : ℕ) (u : Port) (img : List ℕ) (cs : List Call) → (ls : List Left) × (es : List Entry) × Goes m u img cs ls es
-goes-on m u img [] = ([], [], ends)
-goes-on m u img (c ∷ cs) =
-    let l = leftOf u img c in
-    let f = fronts-of u img c in
-    let w = goes-on (suc m) (l .answer .unit) (l .image) cs in
-    (l ∷ w .0, entriesFrom m (brings c) (f .0) 0 (l .answer .taken) ++ w .1, goes (left-answers u img c) (f .1) (w .2))
-
-pub history-exists : (img : List ℕ) (inputs : Inputs) (cs : List Call) → length img ≡ 20480 → inputs .protection ≤ 15 → Each (λ (c : Call). Bytes (brings c)) cs → History img inputs cs
-history-exists img inputs cs size p y =
-    let w = goes-on 0 (startCall img inputs .unit) img cs in
-    record {
-      size = size;
-      protection = p;
-      bytes = y;
-      started = startCall img inputs;
-      start = refl;
-      lefts = w .0;
-      trace = w .1;
-      goes = w .2;
-    }
+-- a call by itself, on a unit in range and an image of the right size
+pub call-called : {u : Port} {img : List ℕ} → Fit u img → (c : Call) (l : Left) → Answers u img c l → (es : List Entry) × Called 0 u img c l es
+call-called {u} {img} f c l a =
+    let g : Fronts u img c l (frontsOf u img c) = subst⁻¹ (λ (x : Left). Fronts u img c x (frontsOf u img c)) (answers-left u img c l a) (fronts-are u img c) in
+    (entriesFrom 0 (brings c) (frontsOf u img c) 0 (l .answer .taken), call-is 0 (fit-sound f) img (f .size) {c = c} {l = l} a g)

@@ -16,7 +16,6 @@ use Rattle.packets.specs.Counts.{checks}
 use Rattle.slices.specs.Lists.{Each, Bytes}
 use Rattle.flash.specs.Blocks.{find, holds, placeOf}
 use Rattle.flash.specs.Image.{byteAt}
-use Rattle.slices.proofs.Lists.{bytes-append, bytes-zeros}
 use Rattle.unit.specs.declared.Unit.{Unit as Port}
 use Rattle.unit.specs.declared.Registers.{Registers}
 use Rattle.unit.specs.declared.Phase.the-variants.{Awake}
@@ -30,11 +29,12 @@ use Rattle.protocol.specs.Step.{step, run}
 use Rattle.protocol.specs.Rows.{Ready, Dropped, Partway, Ends, Kept, Row, Guarded, rightPacket, afterWrong}
 use Rattle.protocol.specs.Rows.Row.{after-F5}
 use Rattle.protocol.specs.Rows.Guarded.{drops-FF, drops-41, drops-49, drops-20, drops-A7, drops-50}
-use Rattle.protocol.proofs.RowsFront.{every-packet, front}
+use Rattle.protocol.proofs.RowsFront.{front}
 use Rattle.protocol.proofs.RowsShort.{row-70, row-FB, row-B0-to-B4, row-00, closed-drops, unknown-drops}
 use Rattle.protocol.proofs.RowsCheck.{check-right, check-wrong}
 use Rattle.demands.specs.Record.{Open, lockAfter}
 use Rattle.demands.specs.Flash.{ids}
+use Rattle.demands.proofs.Filled.{filled-row}
 use Rattle.demands.proofs.Calm.{View, Seen, After, ShutWithin, Passes, Comes, Opened, Counted, At, seen-shut, none, one, then}
 
 -- what holds of each of some numbers, and of a number that is none of them, holds of every number
@@ -134,24 +134,6 @@ pub right-bytes : (img : List ℕ) → rightPacket img ≡ packetBytes (right (i
 unfolding byteAt placeOf find holds
 right-bytes img = refl
 
--- a packet that is broken off is the front of one that is not
-padded : (t : List ℕ) (n j : ℕ) → getD (t ++ replicate n 0x00) j 0 ≡ getD t j 0
-padded [] zero j = refl
-padded [] (suc n) zero = refl
-padded [] (suc n) (suc j) = padded [] n j
-padded (x ∷ t) n zero = refl
-padded (x ∷ t) n (suc j) = padded t n j
-
-abbrev filled : List ℕ → List ℕ
-filled t = t ++ replicate (4 + getD t 3 0 - length t) 0x00
-
-filled-row : (t : List ℕ) → Bytes t → length t < 4 + getD t 3 0 → Row id-check 0xF5 (filled t)
-unfolding need commandOf
-filled-row t y h =
-    let n : ℕ = 4 + getD t 3 0 - length t in
-    every-packet id-check (filled t) (bytes-append t (replicate n 0x00) y (bytes-zeros n))
-    (omega (arith, length-append t (replicate n 0x00), length-replicate {A = ℕ} n 0x00, padded t n 3))
-
 -- the count after a packet that is not the right one
 abbrev countAfter : Packet → ℕ → ℕ
 countAfter (lone b) c = c
@@ -211,16 +193,17 @@ brokenOff v (b ∷ t) = record { phase = Awake (IdCheck (length t)); registers =
 
 broken-off : {c : ℕ} {v : View} {u : Port} → At (Awake Command) c v → Sound u → Seen v u → (img t : List ℕ) → Bytes t → length t < 4 + getD t 3 0
     → Passes u img (0xF5 ∷ t) (brokenOff v (0xF5 ∷ t)) []
+unfolding need commandOf
 broken-off {v = v} {u = u} a sound seen img t y h =
     let pad : List ℕ = replicate (4 + getD t 3 0 - length t) 0x00 in
-    let row = filled-row t y h in
-    let long : length t < length (filled t) = omega (arith, length-append t pad, length-replicate {A = ℕ} (4 + getD t 3 0 - length t) 0x00) in
-    let whole : take (length t) (filled t) ≡ t = take-append-seam t pad in
-    let p = subst (λ (l : List ℕ). Partway u img id-check (filled t) (length t) (run u img (0xF5 ∷ l))) whole (front (ready a sound seen) img row (inl refl) (length t) long) in
+    let row : Row id-check 0xF5 (t ++ pad) = filled-row id-check t y (omega arith) in
+    let long : length t < length (t ++ pad) = omega (arith, length-append t pad, length-replicate {A = ℕ} (4 + getD t 3 0 - length t) 0x00) in
+    let whole : take (length t) (t ++ pad) ≡ t = take-append-seam t pad in
+    let p = subst (λ (l : List ℕ). Partway u img id-check (t ++ pad) (length t) (run u img (0xF5 ∷ l))) whole (front (ready a sound seen) img row (inl refl) (length t) long) in
     record {
       before = λ k l.
           subst (λ (xs : List ℕ). Open (run u img xs .unit) → ⊥) (take-append-le k (0xF5 ∷ t) pad (omega arith))
-          (shut-inside a sound seen img (filled t) row k (omega arith));
+          (shut-inside a sound seen img (t ++ pad) row k (omega arith));
       after =
           record {
             image = p .image;

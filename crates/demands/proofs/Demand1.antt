@@ -13,21 +13,20 @@ use Rattle.unit.specs.declared.Inputs.{Inputs}
 use Rattle.unit.specs.Range.{inRange}
 use Rattle.protocol.specs.declared.Started.{Started}
 use Rattle.protocol.specs.Calls.{startRefusal, refusal, Left, refused, StartEnsures, ByteEnsures, RunEnsures}
-use Rattle.protocol.specs.Reasons.{StartReason, Reason}
-use Rattle.protocol.specs.Reasons.StartReason.{fine as start-fine, image as start-image, protection}
-use Rattle.protocol.specs.Reasons.Reason.{fine, image, room, range}
+use Rattle.protocol.proofs.Reasons.{StartReason, Reason}
+use Rattle.protocol.proofs.Reasons.StartReason.{fine as start-fine, image as start-image, protection}
+use Rattle.protocol.proofs.Reasons.Reason.{fine, image, room, range}
 use Rattle.protocol.proofs.Refusals.{start-reason, start-exactly, start-number, start-done, start-refused, reason, exactly, byte-number, run-number, byte-done, byte-refused, run-refused}
 use Rattle.demands.specs.Record.{InRange, Idle, Fresh}
 use Rattle.demands.specs.Flash.{Blank}
-use Rattle.demands.specs.Histories.{Call, areaOf, Entry, History}
-use Rattle.demands.specs.Refusals.{HandsBack, StartExact, Exact, Admitted, EachAdmitted}
-use Rattle.demands.specs.Refusals.Admitted.{too-small, large-enough}
-use Rattle.demands.specs.Refusals.EachAdmitted.{none, each}
+use Rattle.packets.specs.Readings.{Bytes}
+use Rattle.unit.proofs.Ranged.{Sound}
+use Rattle.unit.proofs.Builders.{sound-fresh, sound-idle}
+use Rattle.demands.specs.Histories.{Call, brings, areaOf, Answers, Fit}
+use Rattle.demands.specs.Histories.Call.{byte, run as a-run}
+use Rattle.demands.specs.Refusals.{HandsBack, StartExact, Exact}
 use Rattle.demands.proofs.Records.{in-range, fresh-is, idle-is}
-use Rattle.demands.proofs.Entries.{Called}
-use Rattle.demands.proofs.Entries.Called.{small, took}
-use Rattle.demands.proofs.Bridge.{Went, start-is, went}
-use Rattle.demands.proofs.Bridge.Went.{stays, calls}
+use Rattle.demands.proofs.Bridge.{given-bytes, fit-sound, sound-fit, called-sound, called-size, call-called}
 
 -- a start
 module _ (img : List ℕ) (inputs : Inputs) where
@@ -113,7 +112,7 @@ module _ (u : Port) (img area : List ℕ) where
   for-range (range s h r) e = (s, h, out-of-range r)
 
   -- a refusal hands everything back
-  hands-back : (n : ℕ) → HandsBack u img area (refused n u img area)
+  pub hands-back : (n : ℕ) → HandsBack u img area (refused n u img area)
   hands-back n = record { unit = refl; taken = refl; reply = refl; image = refl; area-kept = refl }
 
   -- what has the call's number, and is a refusal where that is not 0
@@ -168,16 +167,28 @@ module _ (u : Port) (img area : List ℕ) where
           let n : l .answer .refusal ≢ 0 = eqb-false (l .answer .refusal) 0 t in
           inr (n, ap (λ (x : Left). x .answer .taken) (q ∙ byte-refused u img area b (λ z. n (number ∙ z))))
 
--- in a history every image has its size and every unit is in range, so that only the reply room is left to refuse
-went-admitted : {m : ℕ} {u : Port} {img : List ℕ} {cs : List Call} {ls : List Left} {es : List Entry} → Went m u img cs ls es → EachAdmitted u img cs ls
-went-admitted stays = none
-went-admitted (calls s size y k w) = each (called-admitted k) (went-admitted w)
-  where
-    called-admitted : {m : ℕ} {u : Port} {img : List ℕ} {c : Call} {l : Left} {es : List Entry} → Called m u img c l es → Admitted u img (areaOf c) l
-    called-admitted {u = u} {img = img} {c = c} (small h e f) =
-        too-small h (ap (λ (x : Left). x .answer .refusal) e) (subst⁻¹ (HandsBack u img (areaOf c)) e (hands-back u img (areaOf c) 3))
-    called-admitted (took n h st e f) = large-enough h (ap (λ (x : Left). x .answer .refusal) e)
+-- the same of either call
+pub call-exact : (u : Port) (img : List ℕ) (c : Call) (l : Left) → Answers u img c l → Exact u img (areaOf c) l
+call-exact u img (byte b area) l q = byte-exact u img area b l q
+call-exact u img (a-run bs area) l q = run-exact u img area bs l q
 
--- "Whatever bytes arrive, in whatever number, every call comes back": the start does not refuse, and of the calls after it exactly those with an area under 256 bytes do, with 3
-pub history-refusals : {img : List ℕ} {inputs : Inputs} {cs : List Call} (h : History img inputs cs) → (h .started .refusal ≡ 0) × EachAdmitted (h .started .unit) img cs (h .lefts)
-history-refusals h = (ap (λ (r : Started). r .refusal) (start-is h), went-admitted (went h))
+-- U7 at the call, of a byte and of a run: a call that is not refused answers a unit in range, and leaves an image of the right size
+pub call-stays : (u : Port) (img : List ℕ) (c : Call) (l : Left) → length (u .collected) ≡ 259 → Bytes (u .collected) → Bytes (brings c)
+    → Answers u img c l → l .answer .refusal ≡ 0 → Fit (l .answer .unit) (l .image)
+call-stays u img c l wide got given q e =
+    let w = call-exact u img c l q .none .0 e in
+    let f : Fit u img = record { range = w .2; room = wide; bytes = got; size = w .0 } in
+    let k = call-called f c l q .1 in
+    sound-fit (called-sound (fit-sound f) (given-bytes (brings c) given) k) (called-size k ∙ f .size)
+
+-- every start, refused or not, hands out a unit in range: the fresh one or the idle one
+pub start-fits : (img : List ℕ) (inputs : Inputs) (r : Started) → StartEnsures img inputs r → (lent : List ℕ) → length lent ≡ 20480 → Fit (r .unit) lent
+start-fits img inputs r q lent size = go (start-reason img inputs) refl
+  where
+    idling : (startRefusal img inputs ≡ 0 → ⊥) → Fit (r .unit) lent
+    idling n = sound-fit (subst⁻¹ Sound (ap (λ (x : Started). x .unit) (q ∙ start-refused img inputs n)) sound-idle) size
+
+    go : {n : ℕ} → StartReason img inputs n → startRefusal img inputs ≡ n → Fit (r .unit) lent
+    go (start-fine s p) e = sound-fit (subst⁻¹ Sound (ap (λ (x : Started). x .unit) (q ∙ start-done img inputs e)) (sound-fresh img inputs p)) size
+    go (start-image s) e = idling (λ z. omega arith)
+    go (protection s p) e = idling (λ z. omega arith)

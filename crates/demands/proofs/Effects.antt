@@ -21,29 +21,37 @@ use Rattle.unit.specs.Phases.{Kind}
 use Rattle.unit.specs.Phases.Kind.{page-program, unit-program, block-erase, erase-all}
 use Rattle.unit.proofs.Ranged.{Sound, in-range}
 use Rattle.protocol.specs.Step.{run}
-use Rattle.protocol.specs.Rows.{Ready, Row, May}
+use Rattle.protocol.specs.Rows.{Ready, Row, May, Programs as RowPrograms}
 use Rattle.protocol.specs.Rows.Row.{after-41, after-49, after-20, after-A7}
 use Rattle.protocol.specs.Rows.Programs.{page as page-packet, bytes as bytes-packet}
 use Rattle.protocol.specs.Rows.Erases.{block as block-packet, all as all-packet}
 use Rattle.protocol.specs.Endings.{bankEnd}
-use Rattle.protocol.specs.Changes.{Carried}
-use Rattle.protocol.specs.Changes.Carried.{page as page-done, bytes as bytes-done, block as block-done, all as all-done}
+use Rattle.protocol.proofs.Carried.{Carried}
+use Rattle.protocol.proofs.Carried.Carried.{page as page-done, bytes as bytes-done, block as block-done, all as all-done}
 use Rattle.protocol.proofs.RowsMay.{clear-bit}
 use Rattle.protocol.proofs.RowsProgram.{program-carried-out}
 use Rattle.protocol.proofs.RowsErase.{erase-block, erase-every-block}
 use Rattle.demands.specs.Flash.{InBlock, Address, Unprotected}
-use Rattle.demands.specs.Changes.{Begins, pageReach, unitReach, MayProgram, Programmed, Erased, Carries, Permitted}
-use Rattle.demands.specs.Changes.Carries.{page as carries-page, bytes as carries-bytes, block as carries-block, all as carries-all}
-use Rattle.demands.specs.Changes.Permitted.{page, bytes, block, all}
+use Rattle.demands.specs.Changes.{Begins, MayProgram, Programmed, Erased, Programs, Carries, Permitted}
+use Rattle.demands.specs.Changes.Programs.{page, bytes}
+use Rattle.demands.specs.Changes.Permitted.{program, block, all}
 use Rattle.demands.proofs.Records.{open-is, address-is, place-address}
 
 -- when a program may be carried out
-may-is : {reach p a : ℕ} {ds : List ℕ} → MayProgram reach p a ds → May reach p a ds
+pub may-is : {reach p a : ℕ} {ds : List ℕ} → MayProgram reach p a ds → May reach p a ds
 may-is {a = a} m =
     record {
       some = m .some;
       bank = m .bank;
       free = λ j h. let w = m .free j h in (w .0, w .1, address-is (a + j) (w .0) (w .1) .0 (w .2), w .3);
+    }
+
+pub may-from : {reach p a : ℕ} {ds : List ℕ} → May reach p a ds → MayProgram reach p a ds
+may-from {a = a} m =
+    record {
+      some = m .some;
+      bank = m .bank;
+      free = λ j h. let w = m .free j h in (w .0, w .1, address-is (a + j) (w .0) (w .1) .1 (w .2), w .3);
     }
 
 may-back : (reach p a b : ℕ) (ds : List ℕ) → a ≡ b → a % 65536 + length ds ≤ reach → permitted part p a ds ≡ true → MayProgram reach p b ds
@@ -56,7 +64,7 @@ may-back reach p a b ds q bank e =
     })
 
 -- what a program and an erase leave
-programmed-is : {a : ℕ} {ds img new : List ℕ} → Burnt part a ds img new → Programmed a ds img new
+pub programmed-is : {a : ℕ} {ds img new : List ℕ} → Burnt part a ds img new → Programmed a ds img new
 programmed-is {a} {ds} {img} {new} b = record { size = b .size; there = there; elsewhere = elsewhere }
   where
     there : (j i k : ℕ) → j < length ds → Address (a + j) i k → getD new k 0 ≡ bitAnd (getD img k 0) (getD ds j 0)
@@ -86,6 +94,13 @@ erased-is P chosen f g {img} {new} w = record { size = w .size; there = there; e
         let e = address-is (d .0) i k .0 (d .1) in
         sym (byte-at part new (d .0) i k e) ∙ (w .elsewhere (d .0) i k e (g i p) ∙ byte-at part img (d .0) i k e)
 
+-- the block of an address, and every block that is not protected
+pub one-erased : (i : ℕ) {img new : List ℕ} → Wiped part (λ (j : ℕ). eqb j i) img new → Erased (λ (j : ℕ). j ≡ i) img new
+one-erased i = erased-is (λ (j : ℕ). j ≡ i) (λ (j : ℕ). eqb j i) (λ j e. eq-eqb j i e) (λ j f. ne-eqb j i f)
+
+pub free-erased : (p : ℕ) {img new : List ℕ} → Wiped part (λ (j : ℕ). eqb (p / 2 ^ j % 2) 0) img new → Erased (Unprotected p) img new
+free-erased p = erased-is (Unprotected p) (λ (j : ℕ). eqb (p / 2 ^ j % 2) 0) (λ j e. eq-eqb (p / 2 ^ j % 2) 0 e) (λ j f. ne-eqb (p / 2 ^ j % 2) 0 f)
+
 -- a permitted packet is a row of the table
 pub record OfRow (packet : List ℕ) : Type 0 where
   pub kind : Kind
@@ -95,10 +110,15 @@ pub record OfRow (packet : List ℕ) : Type 0 where
   pub row : Row kind command rest
 
 pub permitted-row : {p : ℕ} {packet : List ℕ} → Permitted p packet → OfRow packet
-permitted-row (page {ds = ds} h m) = record { kind = page-program; command = 0x41; rest = _; whole = refl; row = after-41 {ds = ds} h }
-permitted-row (bytes {ds = ds} h m) = record { kind = unit-program; command = 0x49; rest = _; whole = refl; row = after-49 {ds = ds} h }
+permitted-row (program (page {ds = ds} h) m) = record { kind = page-program; command = 0x41; rest = _; whole = refl; row = after-41 {ds = ds} h }
+permitted-row (program (bytes {ds = ds} h) m) = record { kind = unit-program; command = 0x49; rest = _; whole = refl; row = after-49 {ds = ds} h }
 permitted-row (block a m) = record { kind = block-erase; command = 0x20; rest = _; whole = refl; row = after-20 }
 permitted-row all = record { kind = erase-all; command = 0xA7; rest = _; whole = refl; row = after-A7 }
+
+-- a program packet is one of the rows'
+pub programs-row : {packet ds : List ℕ} {a reach : ℕ} → Programs packet a ds reach → RowPrograms packet a ds reach
+programs-row (page h) = page-packet h
+programs-row (bytes h) = bytes-packet h
 
 -- at a command, and so where a packet begins, the rows apply
 pub command-ready : {u : Port} → u .phase ≡ Awake Command → Sound u → Ready u
@@ -110,27 +130,23 @@ begins-ready b s = command-ready (b .at-command) s
 -- and the packet is carried out
 pub packet-effect : {u : Port} → Begins u → Sound u → (img : List ℕ) → length img ≡ 20480 → {packet : List ℕ} → Permitted (u .settings .protection) packet
     → Carries (u .settings .protection) img packet (run u img packet .image)
-packet-effect {u} b s img size (page h m) =
-    let w = program-carried-out (begins-ready b s) (open-is u .0 (b .opened)) img (page-packet h) size (b .ready) (may-is m) in
-    carries-page h m (programmed-is (w .2 .image))
-packet-effect {u} b s img size (bytes h m) =
-    let w = program-carried-out (begins-ready b s) (open-is u .0 (b .opened)) img (bytes-packet h) size (b .ready) (may-is m) in
-    carries-bytes h m (programmed-is (w .2 .image))
+packet-effect {u} b s img size (program q m) =
+    let w = program-carried-out (begins-ready b s) (open-is u .0 (b .opened)) img (programs-row q) size (b .ready) (may-is m) in
+    (program q m, programmed-is (w .2 .image))
 packet-effect {u} b s img size (block {mid} {high} {i} {k} d m) =
     let w = erase-block (begins-ready b s) (open-is u .0 (b .opened)) img block-packet (b .ready) size (address-is (256 * mid + 65536 * high) i k .0 d) m in
-    carries-block d m (erased-is (λ (j : ℕ). j ≡ i) (λ (j : ℕ). eqb j i) (λ j e. eq-eqb j i e) (λ j f. ne-eqb j i f) (w .image))
+    (block d m, one-erased i (w .image))
 packet-effect {u} b s img size all =
-    let p : ℕ = u .settings .protection in
     let w = erase-every-block (begins-ready b s) (open-is u .0 (b .opened)) img all-packet (b .ready) size in
-    carries-all (erased-is (Unprotected p) (λ (j : ℕ). eqb (p / 2 ^ j % 2) 0) (λ j e. eq-eqb (p / 2 ^ j % 2) 0 e) (λ j f. ne-eqb (p / 2 ^ j % 2) 0 f) (w .image))
+    (all, free-erased (u .settings .protection) (w .image))
 
 -- what the specification carries out is a permitted packet
 pub carried-permitted : {p : ℕ} {img xs new : List ℕ} {k : Kind} {c : ℕ} → Carried p img xs k new → Row k c xs → Permitted p (c ∷ xs)
 unfolding bankEnd
 carried-permitted {p} (page-done m) (after-41 {mid} {high} {ds} h) =
-    page h (may-back pageReach p (pageAddress mid high) (256 * mid + 65536 * high) ds (omega arith) (m .bank) (m .free))
+    program (page {ds = ds} h) (may-back 65536 p (pageAddress mid high) (256 * mid + 65536 * high) ds (omega arith) (m .bank) (m .free))
 carried-permitted {p} (bytes-done m) (after-49 {low} {mid} {high} {ds} h) =
-    bytes h (may-back unitReach p (byteAddress low mid high) (low + 256 * mid + 65536 * high) ds (omega arith) (m .bank) (m .free))
+    program (bytes {ds = ds} h) (may-back 65535 p (byteAddress low mid high) (low + 256 * mid + 65536 * high) ds (omega arith) (m .bank) (m .free))
 carried-permitted {p} (block-done c m) (after-20 {mid} {high} {confirm}) =
     let q : pageAddress mid high ≡ 256 * mid + 65536 * high = omega arith in
     let w = free-found p (find part (pageAddress mid high)) m in

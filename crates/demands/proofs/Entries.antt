@@ -13,7 +13,7 @@ use Rattle.unit.proofs.Ranged.{Sound, in-range}
 use Rattle.protocol.specs.Outcome.{Outcome, says, quiet}
 use Rattle.protocol.specs.Step.{step, run}
 use Rattle.protocol.specs.Calls.{Left, refusal, refused, answered, byteCall, Walk, walked, runCall}
-use Rattle.protocol.specs.Reasons.Reason.{room as no-room}
+use Rattle.protocol.proofs.Reasons.Reason.{room as no-room}
 use Rattle.protocol.proofs.Steps.{run-one, run-append}
 use Rattle.protocol.proofs.Runs.{Stopped, stopped, run-answers}
 use Rattle.protocol.proofs.Refusals.{exactly, all-right, byte-done, byte-refused, run-refused}
@@ -59,7 +59,7 @@ pub data Called (m : ℕ) (u : Port) (img : List ℕ) (c : Call) (l : Left) (es 
       → l ≡ answered (run u img (take n (brings c))) n (areaOf c) → es ≡ stepsOf m 0 u img (take n (brings c)) → Called m u img c l es
 
 -- one byte more
-run-suc : (u : Port) (img bs : List ℕ) (j : ℕ) → j < length bs
+pub run-suc : (u : Port) (img bs : List ℕ) (j : ℕ) → j < length bs
     → let o = run u img (take j bs) in let s = step (o .unit) (o .image) (getD bs j 0) in run u img (take (suc j) bs) ≡ says (s .unit) (s .image) (o .reply ++ s .reply)
 run-suc u img bs j h =
     let o : Outcome = run u img (take j bs) in

@@ -1,4 +1,4 @@
--- A packet inside a history: from its command byte on it is partway, as the rows say; and the byte that completes it is the last of what was taken since its command.
+-- A packet among the bytes of calls: from its command byte on it is partway, as the rows say; and the byte that completes it is the last of what was taken since its command.
 use Prim.Native.Nat.{ℕ, suc, _+_, _-_, _≤_, _<_}
 use native.Mathlib.Omega.{arith}
 use mathlib.Core.Path.{_≡_, ap, sym, _∙_, subst}
@@ -7,21 +7,18 @@ use lib.ListN.{length, take, drop, length-append, length-drop}
 use lib.Seq.{length-take-le, take-take}
 use Rattle.slices.proofs.Lists.{bytes-take, bytes-append}
 use Rattle.unit.specs.declared.Unit.{Unit as Port}
-use Rattle.unit.specs.declared.Inputs.{Inputs}
 use Rattle.unit.specs.declared.Phase.the-variants.{Awake}
 use Rattle.unit.specs.declared.Place.the-variants.{Command}
 use Rattle.unit.specs.Phases.{Kind, commandOf, need, positionOf}
 use Rattle.unit.specs.Phases.Position.{within}
 use Rattle.unit.proofs.Ranged.{Sound}
-use Rattle.unit.proofs.Builders.{fresh-phase}
 use Rattle.unit.proofs.Inside.{few-collected}
 use Rattle.protocol.specs.Step.{run}
 use Rattle.protocol.specs.Rows.{Partway, Row, Taken}
 use Rattle.protocol.proofs.RowsFront.{front, every-packet}
-use Rattle.demands.specs.Histories.{Call, Entry, History, unitAfter, imageAfter, taken, At}
-use Rattle.demands.specs.Changes.{bytesTo}
+use Rattle.demands.specs.Histories.{Call, Entry, Calls, Fit, unitAfter, imageAfter, taken, At, bytesTo}
 use Rattle.demands.proofs.Traces.{at-under, taken-long}
-use Rattle.demands.proofs.Bridge.{start-fresh, stepped, start-sound, sound-at, entry-is}
+use Rattle.demands.proofs.Bridge.{fit-sound, stepped, sound-at, entry-is}
 use Rattle.demands.proofs.Effects.{command-ready}
 use Rattle.demands.proofs.Pending.{Pending, pending, pending-next}
 
@@ -38,37 +35,34 @@ pub record Completed (u : Port) (es : List Entry) (k : ℕ) (q : Kind) (xs : Lis
 pub bytes-long : (es : List Entry) (j k : ℕ) → k < length es → length (bytesTo es j k) ≡ suc k - j
 bytes-long es j k under = length-take-le (suc k - j) (drop j (taken es)) (omega (arith, length-drop j (taken es), taken-long es))
 
-module _ {img : List ℕ} {inputs : Inputs} {cs : List Call} (h : History img inputs cs) where
-  abbrev u₀ : Port
-  u₀ = h .started .unit
-
+module _ {u : Port} {img : List ℕ} {cs : List Call} (f : Fit u img) (c : Calls u img cs) where
   abbrev es : List Entry
-  es = h .trace
+  es = c .trace
 
   -- the bytes from the j-th to the k-th are a packet that the unit takes, and i bytes have come since its command
-  pub part-way : (j k : ℕ) → k < length (h .trace) → unitAfter (h .started .unit) (h .trace) j .phase ≡ Awake Command
-      → {q : Kind} {c : ℕ} {xs : List ℕ} → Row q c xs → Taken (unitAfter (h .started .unit) (h .trace) j) q → bytesTo (h .trace) j k ≡ c ∷ xs → (i : ℕ) → suc i < suc k - j
-      → Partway (unitAfter (h .started .unit) (h .trace) j) (imageAfter img (h .trace) j) q xs i
-      (run (unitAfter (h .started .unit) (h .trace) j) (imageAfter img (h .trace) j) (take (suc i) (drop j (taken (h .trace)))))
-  part-way j k under at-command {q} {c} {xs} row open-or-check e i l =
+  pub part-way : (j k : ℕ) → k < length (c .trace) → unitAfter u (c .trace) j .phase ≡ Awake Command
+      → {q : Kind} {b : ℕ} {xs : List ℕ} → Row q b xs → Taken (unitAfter u (c .trace) j) q → bytesTo (c .trace) j k ≡ b ∷ xs → (i : ℕ) → suc i < suc k - j
+      → Partway (unitAfter u (c .trace) j) (imageAfter img (c .trace) j) q xs i
+      (run (unitAfter u (c .trace) j) (imageAfter img (c .trace) j) (take (suc i) (drop j (taken (c .trace)))))
+  part-way j k under at-command {q} {b} {xs} row open-or-check e i l =
       let n : length (bytesTo es j k) ≡ suc (length xs) = ap length e in
-      let front-of : c ∷ take i xs ≡ take (suc i) (drop j (taken es)) =
+      let front-of : b ∷ take i xs ≡ take (suc i) (drop j (taken es)) =
       ap (take (suc i)) (sym e) ∙ take-take (suc i) (suc k - j) (drop j (taken es)) (omega arith) in
-      subst (λ (l : List ℕ). Partway (unitAfter u₀ es j) (imageAfter img es j) q xs i (run (unitAfter u₀ es j) (imageAfter img es j) l)) front-of
-      (front (command-ready at-command (sound-at h j)) (imageAfter img es j) row open-or-check i (omega (arith, bytes-long es j k under)))
+      subst (λ (l : List ℕ). Partway (unitAfter u es j) (imageAfter img es j) q xs i (run (unitAfter u es j) (imageAfter img es j) l)) front-of
+      (front (command-ready at-command (sound-at f c j)) (imageAfter img es j) row open-or-check i (omega (arith, bytes-long es j k under)))
 
-  -- a byte that completes a packet
-  pub completed : {k : ℕ} {e : Entry} → At (h .trace) k e → (q : Kind) (n : ℕ) → positionOf (unitAfter (h .started .unit) (h .trace) k .phase) ≡ within q n
-      → suc n ≡ need q (take n (unitAfter (h .started .unit) (h .trace) k .collected) ++ e .byte ∷ [])
-      → Completed (h .started .unit) (h .trace) k q (take n (unitAfter (h .started .unit) (h .trace) k .collected) ++ e .byte ∷ [])
-  completed {k} {e} a q n f last =
-      let v : Port = unitAfter u₀ es k in
+  -- a byte that completes a packet, where the first unit was not inside one
+  pub completed : ((q : Kind) (n : ℕ) → positionOf (u .phase) ≡ within q n → ⊥) → {k : ℕ} {e : Entry} → At (c .trace) k e → (q : Kind) (n : ℕ) → positionOf (unitAfter u (c .trace) k .phase) ≡ within q n
+      → suc n ≡ need q (take n (unitAfter u (c .trace) k .collected) ++ e .byte ∷ [])
+      → Completed u (c .trace) k q (take n (unitAfter u (c .trace) k .collected) ++ e .byte ∷ [])
+  completed between {k} {e} a q n p last =
+      let v : Port = unitAfter u es k in
       let xs : List ℕ = take n (v .collected) ++ e .byte ∷ [] in
-      let s : Sound v = sound-at h k in
-      let w : Pending u₀ es k q n = pending (stepped h) (start-sound h) (ap (λ (x : Port). x .phase) (start-fresh h) ∙ fresh-phase img inputs) k (omega (arith, at-under a)) q n f in
+      let s : Sound v = sound-at f c k in
+      let w : Pending u es k q n = pending (stepped f c) (fit-sound f) between k (omega (arith, at-under a)) q n p in
       let long : length xs ≡ need q xs =
       length-append (take n (v .collected)) (e .byte ∷ [])
-      ∙ (omega (arith, length-take-le n (v .collected) (omega (arith, few-collected s f, s .room)), last)) in
+      ∙ (omega (arith, length-take-le n (v .collected) (omega (arith, few-collected s p, s .room)), last)) in
       let count : suc k - w .from ≡ suc (suc n) = omega (arith, w .long) in
       record {
         from = w .from;
@@ -76,5 +70,5 @@ module _ {img : List ℕ} {inputs : Inputs} {cs : List Call} (h : History img in
         at-command = w .at-command;
         registers = w .registers;
         bytes = ap (λ (i : ℕ). take i (drop (w .from) (taken es))) count ∙ pending-next w a;
-        row = every-packet q xs (bytes-append (take n (v .collected)) (e .byte ∷ []) (bytes-take n (v .collected) (s .bytes)) (entry-is h a .small, tt)) long;
+        row = every-packet q xs (bytes-append (take n (v .collected)) (e .byte ∷ []) (bytes-take n (v .collected) (s .bytes)) (entry-is f c a .small, tt)) long;
       }

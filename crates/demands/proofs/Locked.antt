@@ -27,7 +27,8 @@ use Rattle.protocol.specs.Step.{wakes, asleep, body, completes, inPacket, stepA
 use Rattle.protocol.proofs.Mismatches.{wrong-checked, locked-checked}
 use Rattle.protocol.proofs.Cases.{Leaves, Leads, leads, registers-lead}
 use Rattle.protocol.proofs.Cases.Leaves.{as-were, srd-set, checks, rate-set}
-use Rattle.demands.specs.Record.{lockAfter, Locked}
+use Rattle.demands.specs.Locking.{Locked}
+use Rattle.demands.specs.Record.{lockAfter}
 use Rattle.demands.proofs.Calm.{View, Seen, Alike, After, Comes, none, one, then}
 
 -- any ID check gives 04, right or not, and the count stays

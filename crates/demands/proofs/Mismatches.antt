@@ -1,18 +1,16 @@
--- Document 02's Item 5, at any moment of a history. The rows of the packet table say what an ID packet leaves, and they hold wherever a unit stands at a command;
+-- Document 02's Item 5, at any moment of a history. The table's row of an ID packet says what it leaves;
 -- a byte that is not the last of an ID packet sets SRD or the rate, or no register; and a locked unit stays locked by the step.
 use Prim.Native.Nat.{ℕ, suc, _+_, _-_, _≤_, _<_}
 use native.Mathlib.Omega.{arith}
-use native.Mathlib.Decide.{decLt}
-use mathlib.Core.Bool.{false, not}
+use mathlib.Core.Bool.{false, not, false≢true}
 use mathlib.Core.Logic.{_⊎_, inl, inr}
 use mathlib.Core.Path.{_≡_, refl, ap, sym, _∙_, subst, subst⁻¹}
-use mathlib.Core.List.{List, [], _∷_}
+use mathlib.Core.List.{List, _∷_}
 use lib.ListN.{length, take, drop}
 use lib.Dec.{eqb}
 use borrow.Author.Tests.{eqb-true}
-use Rattle.packets.specs.Pieces.{packetBytes, right}
-use Rattle.packets.proofs.Decisions.{list?}
-use Rattle.slices.specs.Lists.{Each, Bytes}
+use Rattle.packets.specs.Pieces.{check, packetBytes}
+use Rattle.slices.specs.Lists.{Bytes}
 use Rattle.slices.proofs.Lists.{cond-elim, bytes-take, bytes-drop}
 use Rattle.flash.specs.Image.{Written}
 use Rattle.unit.specs.declared.Unit.{Unit as Port}
@@ -25,31 +23,30 @@ use Rattle.unit.specs.Phases.{Kind, commandOf, need, Position, positionOf}
 use Rattle.unit.specs.Phases.Kind.{page-read, page-program, unit-program, block-erase, erase-all, id-check}
 use Rattle.unit.specs.Phases.Position.{sleeping, commanding, within}
 use Rattle.unit.specs.Model.{phased, longer, ended, standing}
-use Rattle.unit.proofs.Ranged.{Sound, sound, registers-mismatches}
-use Rattle.unit.proofs.Builders.{fresh-blank}
+use Rattle.unit.proofs.Ranged.{Sound}
+use Rattle.unit.proofs.Builders.{fresh-blank, fresh-phase}
 use Rattle.protocol.specs.Outcome.{Outcome}
 use Rattle.protocol.specs.Commands.{Command as Meaning, meaning, effect, dropped, commanded}
 use Rattle.protocol.specs.Commands.Command.{begin, clear, status, version, time, unknown, rate}
 use Rattle.protocol.specs.Endings.{programs, erases, finished}
 use Rattle.protocol.specs.Step.{wakes, asleep, body, completes, inPacket, stepAt, step, run}
-use Rattle.protocol.specs.Rows.{Ready, Ends, Kept, Row, rightPacket}
+use Rattle.protocol.specs.Rows.{Row}
 use Rattle.protocol.specs.Rows.Row.{after-F5 as row-F5}
-use Rattle.protocol.proofs.RowsCheck.{check-right, check-locked, check-wrong}
-use Rattle.demands.specs.Record.{lockAfter, Locked, InRange}
+use Rattle.demands.specs.Locking.{Locked, IdPacket, Counting}
 use Rattle.demands.specs.Flash.{ids, Blank}
-use Rattle.demands.specs.Histories.{Call, brings, Entry, Goes, History, unitAfter, imageAfter, taken, At}
-use Rattle.protocol.specs.Calls.{Left}
-use Rattle.demands.specs.Changes.{bytesTo}
-use Rattle.demands.specs.Mismatches.{IdPacket, Right, Checked, Counting}
-use Rattle.demands.specs.Mismatches.IdPacket.{whole}
-use Rattle.demands.specs.Mismatches.Checked.{opens, stays-shut, counts}
-use Rattle.demands.specs.Mismatches.Counting.{none, last}
-use Rattle.demands.proofs.Traces.{Stepped, at-under, taken-bytes, unit-next, unit-run, image-run, unit-onward, image-onward}
-use Rattle.demands.proofs.Bridge.{goes-went, went-stepped, start-fresh, stepped, sound-at, size-at, settings-at, entry-is, bytes-are}
-use Rattle.demands.proofs.Records.{in-range, filled-is}
-use Rattle.demands.proofs.Effects.{command-ready}
+use Rattle.demands.specs.Histories.{Call, Entry, Calls, History, Fit, unitAfter, imageAfter, taken, At, bytesTo}
+use Rattle.demands.specs.Mismatches.{Checked}
+use Rattle.demands.specs.Locking.IdPacket.{whole}
+use Rattle.demands.specs.Table.{Whole, IdChecked, Ends}
+use Rattle.demands.specs.Table.Whole.{takes-F5}
+use Rattle.demands.specs.Table.IdChecked.{stays-open, judged as not-blank}
+use Rattle.demands.specs.Locking.Counting.{none, last}
+use Rattle.demands.proofs.Traces.{at-under, at-position, unit-next, unit-run, image-run, unit-onward, image-onward}
+use Rattle.demands.proofs.Bridge.{fit-sound, start-fresh, start-fit, stepped, sound-at, size-at, settings-at, entry-is, bytes-are}
+use Rattle.demands.proofs.Records.{filled-is}
+use Rattle.demands.proofs.Pending.{not-asleep}
 use Rattle.demands.proofs.InHistory.{bytes-long, part-way, completed}
-use Rattle.demands.proofs.Checks.{right-bytes}
+use Rattle.demands.proofs.Table.{demand-2-table}
 use Rattle.demands.proofs.Locked.{viewOf, locked-bytes}
 
 -- a byte leaves the count as it was, or completes an ID packet
@@ -114,13 +111,11 @@ module _ {u : Port} (s : Sound u) (k : Locked (u .registers)) (img : List ℕ) (
       (subst⁻¹ Locked (a .seen .registers) (c .is), a .image)
 
 -- once as many wrong ID checks are counted as lock a unit and it is closed, no calls open it, and none change the image: of any unit in range, reached or not, and any calls
-pub locked-calls : {m : ℕ} {u : Port} {img : List ℕ} {cs : List Call} {ls : List Left} {es : List Entry}
-    → InRange u → length (u .collected) ≡ 259 → Bytes (u .collected) → length img ≡ 20480 → Each (λ (c : Call). Bytes (brings c)) cs → Goes m u img cs ls es
-    → Locked (u .registers) → (k : ℕ) → Locked (unitAfter u es k .registers) × (imageAfter img es k ≡ img)
-locked-calls {u = u} {img = img} {es = es} r room got size bytes g l k =
-    let s : Sound u = sound u (in-range u .0 r) room got in
-    let t : Stepped u img es = went-stepped (goes-went s size bytes g) in
-    let w = locked-run s l img size (take k (taken es)) (bytes-take k (taken es) (taken-bytes t)) in
+pub locked-calls : {u : Port} {img : List ℕ} {cs : List Call} → Fit u img → (c : Calls u img cs)
+    → Locked (u .registers) → (k : ℕ) → Locked (unitAfter u (c .trace) k .registers) × (imageAfter img (c .trace) k ≡ img)
+locked-calls {img = img} f c l k =
+    let t = stepped f c in
+    let w = locked-run (fit-sound f) l img (f .size) (take k (taken (c .trace))) (bytes-take k (taken (c .trace)) (bytes-are f c)) in
     (subst⁻¹ (λ (x : Port). Locked (x .registers)) (unit-run t k) (w .0), image-run t k ∙ w .1)
 
 module _ {img : List ℕ} {inputs : Inputs} {cs : List Call} (h : History img inputs cs) where
@@ -128,21 +123,21 @@ module _ {img : List ℕ} {inputs : Inputs} {cs : List Call} (h : History img in
   u₀ = h .started .unit
 
   abbrev es : List Entry
-  es = h .trace
+  es = h .calls .trace
 
   -- and so inside a history, from the byte on that locks the unit, before its first opening or after it
-  pub locked-for-good : (j k : ℕ) → j ≤ k → Locked (unitAfter (h .started .unit) (h .trace) j .registers)
-      → Locked (unitAfter (h .started .unit) (h .trace) k .registers) × (imageAfter img (h .trace) k ≡ imageAfter img (h .trace) j)
+  pub locked-for-good : (j k : ℕ) → j ≤ k → Locked (unitAfter (h .started .unit) (h .calls .trace) j .registers)
+      → Locked (unitAfter (h .started .unit) (h .calls .trace) k .registers) × (imageAfter img (h .calls .trace) k ≡ imageAfter img (h .calls .trace) j)
   locked-for-good j k after l =
       let bs : List ℕ = take (k - j) (drop j (taken es)) in
-      let w = locked-run (sound-at h j) l (imageAfter img es j) (size-at h j) bs (bytes-take (k - j) (drop j (taken es)) (bytes-drop j (taken es) (bytes-are h))) in
-      (subst⁻¹ (λ (x : Port). Locked (x .registers)) (unit-onward (stepped h) j (k - j) k (omega arith)) (w .0), image-onward (stepped h) j (k - j) k (omega arith) ∙ w .1)
+      let w = locked-run (sound-at (start-fit h) (h .calls) j) l (imageAfter img es j) (size-at (start-fit h) (h .calls) j) bs (bytes-take (k - j) (drop j (taken es)) (bytes-drop j (taken es) (bytes-are (start-fit h) (h .calls)))) in
+      (subst⁻¹ (λ (x : Port). Locked (x .registers)) (unit-onward (stepped (start-fit h) (h .calls)) j (k - j) k (omega arith)) (w .0), image-onward (stepped (start-fit h) (h .calls)) j (k - j) k (omega arith) ∙ w .1)
 
   -- what a complete ID packet makes of SRD1 and of the count, before the first opening or after it
-  module _ (n : Blank img → ⊥) (j k : ℕ) (after : j ≤ k) (under : k < length (h .trace)) (at-command : unitAfter (h .started .unit) (h .trace) j .phase ≡ Awake Command) where
+  module _ (n : Blank img → ⊥) (j k : ℕ) (after : j ≤ k) (under : k < length (h .calls .trace)) (at-command : unitAfter (h .started .unit) (h .calls .trace) j .phase ≡ Awake Command) where
     filled : unitAfter u₀ es j .settings .blank ≡ false
     filled =
-        ap (λ (t : Settings). t .blank) (settings-at h j)
+        ap (λ (t : Settings). t .blank) (settings-at (start-fit h) (h .calls) j)
         ∙ (ap (λ (u : Port). u .settings .blank) (start-fresh h) ∙ (fresh-blank img inputs ∙ filled-is img (h .size) n))
 
     abbrev u : Port
@@ -159,57 +154,35 @@ module _ {img : List ℕ} {inputs : Inputs} {cs : List Call} (h : History img in
         go q (whole {ds = ds} small) =
             let i : ℕ = k - j - 1 in
             let count : j + suc i ≡ k = omega (arith, bytes-long es j k under, ap length q) in
-            let w = part-way h j k under at-command (row-F5 {ds = ds} small) (inl refl) q i (omega arith) in
-            (ap (λ (x : Port). x .registers) (unit-onward (stepped h) j (suc i) k count) ∙ w .registers, image-onward (stepped h) j (suc i) k count ∙ w .image)
+            let w = part-way (start-fit h) (h .calls) j k under at-command (row-F5 {ds = ds} small) (inl refl) q i (omega arith) in
+            (ap (λ (x : Port). x .registers) (unit-onward (stepped (start-fit h) (h .calls)) j (suc i) k count) ∙ w .registers, image-onward (stepped (start-fit h) (h .calls)) j (suc i) k count ∙ w .image)
 
-    -- the rows, by whether it is the right packet and how many wrong ones were counted
-    module _ (low mid high : ℕ) (ds : List ℕ) (small : length ds < 256) (q : bytesTo es j k ≡ 0xF5 ∷ low ∷ mid ∷ high ∷ length ds ∷ ds) where
-      abbrev packet : List ℕ
-      packet = 0xF5 ∷ low ∷ mid ∷ high ∷ length ds ∷ ds
-
-      left : {r : Registers} → Ends u r (Kept now) [] (run u now packet) → unitAfter u₀ es (suc k) .registers ≡ r
-      left e =
-          ap (λ (x : Port). x .registers) (unit-onward (stepped h) j (suc k - j) (suc k) (omega arith))
-          ∙ (ap (λ (l : List ℕ). run u now l .unit .registers) q ∙ e .registers)
-
-      left-right : {r : Registers} → Right now packet → Ends u r (Kept now) [] (run u now (rightPacket now)) → unitAfter u₀ es (suc k) .registers ≡ r
-      left-right {r} e w = left (subst (λ (l : List ℕ). Ends u r (Kept now) [] (run u now l)) (right-bytes now ∙ sym e) w)
-
-      judge : Checked now packet (u .registers) (unitAfter u₀ es (suc k) .registers)
-      judge = go (list? packet (packetBytes (right (ids now)))) (decLt (u .registers .mismatches) lockAfter)
-        where
-          ready : Ready u
-          ready = command-ready at-command (sound-at h j)
-
-          go : Dec (Right now packet) → Dec (u .registers .mismatches < lockAfter) → Checked now packet (u .registers) (unitAfter u₀ es (suc k) .registers)
-          go (yes e) (yes few) =
-              let r = left-right e (check-right ready now (size-at h j) filled few) in
-              opens e few (ap (λ (x : Registers). x .srd1) r) (ap (λ (x : Registers). x .mismatches) r)
-          go (yes e) (no many) =
-              let full : u .registers .mismatches ≡ lockAfter = omega (arith, registers-mismatches (u .registers) (sound-at h j .registers)) in
-              let r = left-right e (check-locked ready now (size-at h j) filled (omega arith)) in
-              stays-shut e full (ap (λ (x : Registers). x .srd1) r) (ap (λ (x : Registers). x .mismatches) r ∙ full)
-          go (no e) d =
-              let r = left (check-wrong ready now low mid high ds small (size-at h j) filled (λ w. e (w ∙ right-bytes now))) in
-              counts e (ap (λ (x : Registers). x .srd1) r) (ap (λ (x : Registers). x .mismatches) r)
-
+    -- the table's row of an ID packet; a unit that did not start blank is judged
     judged : {packet : List ℕ} → bytesTo es j k ≡ packet → IdPacket packet → Checked now packet (u .registers) (unitAfter u₀ es (suc k) .registers)
-    judged q (whole {low} {mid} {high} {ds} small) = judge low mid high ds small q
+    judged q (whole {low} {mid} {high} {ds} small) =
+        let (e, a) = at-position es k under in
+        let last = subst (λ (p : List ℕ). (w : Whole u p) → Ends w now e) q (λ w. demand-2-table (start-fit h) (h .calls) .ends j k e after a at-command w) in
+        let (said, r, kept) = last (takes-F5 {low = low} {mid = mid} {high = high} {ds = ds} small) .effect in
+        subst⁻¹ (λ (v : Port). Checked now (packetBytes (check low mid high ds)) (u .registers) (v .registers)) (unit-next u₀ a) (go r)
+      where
+        go : {packet : List ℕ} {r : Registers} → IdChecked u now packet r → Checked now packet (u .registers) r
+        go (stays-open b o e) = absurd (false≢true (sym filled ∙ b))
+        go (not-blank b c) = c
 
-    pub each-check : IdPacket (bytesTo (h .trace) j k)
-        → Checked (imageAfter img (h .trace) k) (bytesTo (h .trace) j k) (unitAfter (h .started .unit) (h .trace) k .registers) (unitAfter (h .started .unit) (h .trace) (suc k) .registers)
+    pub each-check : IdPacket (bytesTo (h .calls .trace) j k)
+        → Checked (imageAfter img (h .calls .trace) k) (bytesTo (h .calls .trace) j k) (unitAfter (h .started .unit) (h .calls .trace) k .registers) (unitAfter (h .started .unit) (h .calls .trace) (suc k) .registers)
     each-check p =
         let w = inside p in
         subst⁻¹ (λ (l : List ℕ). Checked l (bytesTo es j k) (unitAfter u₀ es k .registers) (unitAfter u₀ es (suc k) .registers)) (w .1)
         (subst⁻¹ (λ (r : Registers). Checked now (bytesTo es j k) r (unitAfter u₀ es (suc k) .registers)) (w .0) (judged refl p))
 
   -- nothing else changes the count: a byte leaves it as it was, or is the last of a complete ID packet, which has its effect
-  pub count-kept : (Blank img → ⊥) → (k : ℕ) (e : Entry) → At (h .trace) k e → Counting (h .started .unit) img (h .trace) k
+  pub count-kept : (Blank img → ⊥) → (k : ℕ) (e : Entry) → At (h .calls .trace) k e → Counting (h .started .unit) img (h .calls .trace) k
   unfolding body commandOf
   count-kept n k e a = go (keeps (unitAfter u₀ es k) (imageAfter img es k) (e .byte))
     where
       now : step (unitAfter u₀ es k) (imageAfter img es k) (e .byte) .unit ≡ unitAfter u₀ es (suc k)
-      now = ap (λ (o : Outcome). o .unit) (entry-is h a .leads) ∙ sym (unit-next u₀ a)
+      now = ap (λ (o : Outcome). o .unit) (entry-is (start-fit h) (h .calls) a .leads) ∙ sym (unit-next u₀ a)
 
       packet : {c : ℕ} {xs : List ℕ} → Row id-check c xs → IdPacket (c ∷ xs)
       packet (row-F5 {ds = ds} small) = whole {ds = ds} small
@@ -217,6 +190,6 @@ module _ {img : List ℕ} {inputs : Inputs} {cs : List Call} (h : History img in
       go : Keeps (unitAfter u₀ es k) (e .byte) (step (unitAfter u₀ es k) (imageAfter img es k) (e .byte)) → Counting u₀ img es k
       go (inl q) = none (ap (λ (u : Port). u .registers .mismatches) (sym now) ∙ q)
       go (inr (m, f, l)) =
-          let w = completed h a id-check m f l in
+          let w = completed (start-fit h) (h .calls) (λ q n z. not-asleep (ap (λ (u : Port). u .phase) (start-fresh h) ∙ fresh-phase img inputs) q n z) a id-check m f l in
           let p : IdPacket (bytesTo es (w .from) k) = subst⁻¹ IdPacket (w .bytes) (packet (w .row)) in
           last (w .from) (w .under) (w .at-command) p (each-check n (w .from) k (w .under) (at-under a) (w .at-command) p)

@@ -3,15 +3,16 @@ use Prim.Native.Nat.{ℕ, _+_, _-_, _*_, _/_, _%_, _^_, _≤_, _<_}
 use native.Mathlib.Omega.{arith}
 use native.Mathlib.Decide.{decLt, ℕ-discrete}
 use mathlib.Core.Path.{_≡_, refl, sym, _∙_, subst}
-use mathlib.Core.Logic.{inl, inr}
+use mathlib.Core.Logic.{_≢_, inl, inr}
 use mathlib.Core.List.{List, _∷_}
 use lib.ListN.{length, getD}
 use lib.Seq.{ext-getD}
 use Rattle.flash.specs.Blocks.{part}
 use Rattle.flash.proofs.Places.{block-of-place}
 use Rattle.demands.specs.Flash.{InBlock, Address, Unprotected}
-use Rattle.demands.specs.Changes.{Programmed, Erased, Carries}
-use Rattle.demands.specs.Changes.Carries.{page, bytes, block, all}
+use Rattle.demands.specs.Changes.{Programmed, Erased, Programs, Permitted, Leaves, Carries}
+use Rattle.demands.specs.Changes.Programs.{page, bytes}
+use Rattle.demands.specs.Changes.Permitted.{program, block, all}
 use Rattle.demands.proofs.Records.{block-is, address-is, place-address}
 
 -- two images with the same byte at each place
@@ -21,7 +22,7 @@ by-places l m p q f =
     (λ k h. let w = block-of-place part k (omega (arith, p)) in f (w .0) k (block-is (w .0) k .1 (w .2, w .3)))
 
 module _ (img : List ℕ) (size : length img ≡ 20480) (l m : List ℕ) where
-  one-programmed : {a : ℕ} {ds : List ℕ} → Programmed a ds img l → Programmed a ds img m → l ≡ m
+  pub one-programmed : {a : ℕ} {ds : List ℕ} → Programmed a ds img l → Programmed a ds img m → l ≡ m
   one-programmed {a} {ds} p q = by-places l m (p .size ∙ size) (q .size ∙ size) (λ i k b. let w = place-address b in at i k (w .0) (w .1) (decLt (w .0) a) (decLt (w .0) (a + length ds)))
     where
       at : (i k x : ℕ) → Address x i k → Dec (x < a) → Dec (x < a + length ds) → getD l k 0 ≡ getD m k 0
@@ -33,34 +34,48 @@ module _ (img : List ℕ) (size : length img ≡ 20480) (l m : List ℕ) where
           let h : x - a < length ds = omega arith in
           p .there (x - a) i k h g ∙ sym (q .there (x - a) i k h g)
 
-  one-erased : (P : ℕ → Type 0) → ((i : ℕ) → Dec (P i)) → Erased P img l → Erased P img m → l ≡ m
+  pub one-erased : (P : ℕ → Type 0) → ((i : ℕ) → Dec (P i)) → Erased P img l → Erased P img m → l ≡ m
   one-erased P decide p q = by-places l m (p .size ∙ size) (q .size ∙ size) (λ i k b. at i k b (decide i))
     where
       at : (i k : ℕ) → InBlock i k → Dec (P i) → getD l k 0 ≡ getD m k 0
       at i k b (yes s) = p .there i k b s ∙ sym (q .there i k b s)
       at i k b (no s) = p .elsewhere i k b s ∙ sym (q .elsewhere i k b s)
 
-  -- the other of two unit programs
-  other-bytes : {p : ℕ} {packet : List ℕ} → Carries p img packet m → (low mid high : ℕ) (ds : List ℕ) → packet ≡ 0x49 ∷ low ∷ mid ∷ high ∷ length ds ∷ ds
-      → Programmed (low + 256 * mid + 65536 * high) ds img m
-  other-bytes (page h f g) low mid high ds e = let z : _≡_ {A = ℕ} 0x41 0x49 = cc in absurd (omega arith)
-  other-bytes (block d f g) low mid high ds e = let z : _≡_ {A = ℕ} 0x20 0x49 = cc in absurd (omega arith)
-  other-bytes (all g) low mid high ds e = let z : _≡_ {A = ℕ} 0xA7 0x49 = cc in absurd (omega arith)
-  other-bytes (bytes {low = x} {mid = y} {high = z} {ds = xs} h f g) low mid high ds e =
+  -- a program's address and data, from the bytes of its packet
+  of-bytes : {packet xs : List ℕ} {a reach : ℕ} → Programs packet a xs reach → (low mid high : ℕ) (ds : List ℕ) → packet ≡ 0x49 ∷ low ∷ mid ∷ high ∷ length ds ∷ ds
+      → (a ≡ low + 256 * mid + 65536 * high) × (xs ≡ ds)
+  of-bytes (page h) low mid high ds e = let z : _≡_ {A = ℕ} 0x41 0x49 = cc in absurd (omega arith)
+  of-bytes (bytes {low = x} {mid = y} {high = z} {ds = xs} h) low mid high ds e =
       let a : x ≡ low = cc in
       let b : y ≡ mid = cc in
       let c : z ≡ high = cc in
       let d : xs ≡ ds = cc in
-      let w : x + 256 * y + 65536 * z ≡ low + 256 * mid + 65536 * high = omega arith in
-      subst (λ (n : ℕ). Programmed n ds img m) w (subst (λ (l : List ℕ). Programmed (x + 256 * y + 65536 * z) l img m) d g)
+      (omega arith, d)
+
+  one-program : {packet ds es : List ℕ} {a b reach most : ℕ} → Programs packet a ds reach → Programs packet b es most → Programmed b es img m → Programmed a ds img m
+  one-program (page h) (page i) g = g
+  one-program {b = b} (bytes {low} {mid} {high} {ds} h) q g =
+      let w = of-bytes q low mid high ds refl in
+      subst (λ (x : ℕ). Programmed x ds img m) (w .0) (subst (λ (xs : List ℕ). Programmed b xs img m) (w .1) g)
+
+  -- a program packet is no erase
+  writes-first : {packet ds : List ℕ} {a reach : ℕ} → Programs packet a ds reach → (b : ℕ) (xs : List ℕ) → packet ≡ b ∷ xs → b ≢ 0x20 × b ≢ 0xA7
+  writes-first (page h) b xs e = let z : b ≡ 0x41 = cc in (λ q. omega arith, λ q. omega arith)
+  writes-first (bytes h) b xs e = let z : b ≡ 0x49 = cc in (λ q. omega arith, λ q. omega arith)
+
+  one-left : {p : ℕ} {packet : List ℕ} (c d : Permitted p packet) → Leaves c img l → Leaves d img m → l ≡ m
+  one-left (program q f) (program r g) x y = one-programmed x (one-program q r y)
+  one-left (program q f) (block d g) x y = absurd (writes-first q 0x20 _ refl .0 refl)
+  one-left (program q f) all x y = absurd (writes-first q 0xA7 _ refl .1 refl)
+  one-left (block d f) (program q g) x y = absurd (writes-first q 0x20 _ refl .0 refl)
+  one-left all (program q g) x y = absurd (writes-first q 0xA7 _ refl .1 refl)
+  one-left (block {mid} {high} {i} {k} d f) (block {i = j} {k = n} e g) x y =
+      let a = address-is (256 * mid + 65536 * high) i k .0 d in
+      let b = address-is (256 * mid + 65536 * high) j n .0 e in
+      let z : j ≡ i = cc in
+      one-erased (λ (x : ℕ). x ≡ i) (λ x. ℕ-discrete x i) x (subst (λ (y : ℕ). Erased (λ (x : ℕ). x ≡ y) img m) z y)
+  one-left {p} all all x y = one-erased (Unprotected p) (λ i. ℕ-discrete (p / 2 ^ i % 2) 0) x y
 
   -- "takes its full effect": the effect leaves nothing of the image open
   pub one-effect : {p : ℕ} {packet : List ℕ} → Carries p img packet l → Carries p img packet m → l ≡ m
-  one-effect (page h f g) (page i j k) = one-programmed g k
-  one-effect (bytes {low} {mid} {high} {ds} h f g) c = one-programmed g (other-bytes c low mid high ds refl)
-  one-effect (block {mid} {high} {i} {k} d f g) (block {i = j} {k = n} e o q) =
-      let x = address-is (256 * mid + 65536 * high) i k .0 d in
-      let y = address-is (256 * mid + 65536 * high) j n .0 e in
-      let z : j ≡ i = cc in
-      one-erased (λ (x : ℕ). x ≡ i) (λ x. ℕ-discrete x i) g (subst (λ (y : ℕ). Erased (λ (x : ℕ). x ≡ y) img m) z q)
-  one-effect {p} (all g) (all k) = one-erased (Unprotected p) (λ i. ℕ-discrete (p / 2 ^ i % 2) 0) g k
+  one-effect c d = one-left (c .0) (d .0) (c .1) (d .1)

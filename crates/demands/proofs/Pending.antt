@@ -62,7 +62,7 @@ data Enters (u : Port) (b : ℕ) (o : Outcome) : Type 0 where
 no-number : _≡_ {A = ℕ} 0 1 → ⊥
 no-number e = omega arith
 
-not-asleep : {f : Phase} {m : ℕ} → f ≡ Asleep m → (k : Kind) (n : ℕ) → positionOf f ≡ within k n → ⊥
+pub not-asleep : {f : Phase} {m : ℕ} → f ≡ Asleep m → (k : Kind) (n : ℕ) → positionOf f ≡ within k n → ⊥
 not-asleep e k n q = let z = sym (ap positionOf e) ∙ q in no-number (cc)
 
 not-command : {f : Phase} → f ≡ Awake AtCommand → (k : Kind) (n : ℕ) → positionOf f ≡ within k n → ⊥
@@ -157,8 +157,8 @@ module _ {u : Port} {img : List ℕ} {es : List Entry} (t : Stepped u img es) (s
       let y : m ≡ n = cc in
       subst (λ (z : Kind). Pending u es k z n) x (subst (Pending u es k q) y p)
 
-  pub pending : {c : ℕ} → u .phase ≡ Asleep c → (k : ℕ) → k ≤ length es → (q : Kind) (n : ℕ) → positionOf (unitAfter u es k .phase) ≡ within q n → Pending u es k q n
-  pending z zero h q n f = absurd (not-asleep z q n f)
+  pub pending : ((q : Kind) (n : ℕ) → positionOf (u .phase) ≡ within q n → ⊥) → (k : ℕ) → k ≤ length es → (q : Kind) (n : ℕ) → positionOf (unitAfter u es k .phase) ≡ within q n → Pending u es k q n
+  pending z zero h q n f = absurd (z q n f)
   pending z (suc k) h q n f =
       let w = at-position es k h in
       let st = entry-steps t (w .1) in

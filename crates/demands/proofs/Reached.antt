@@ -20,11 +20,12 @@ use Rattle.protocol.proofs.Mismatches.{blank-checked, wrong-checked, right-chec
 use Rattle.protocol.proofs.Cases.{Leaves, leads, registers-lead}
 use Rattle.protocol.proofs.Cases.Leaves.{as-were, srd-set, checks, rate-set}
 use Rattle.protocol.proofs.Sound.{sound-step}
-use Rattle.demands.specs.Record.{lockAfter, Locked}
+use Rattle.demands.specs.Record.{lockAfter}
+use Rattle.demands.specs.Locking.{Locked}
 use Rattle.demands.specs.Histories.{Call, Entry, History, unitAfter}
 use Rattle.demands.proofs.Traces.{Stepped}
 use Rattle.demands.proofs.Traces.Stepped.{done, next}
-use Rattle.demands.proofs.Bridge.{start-fresh, start-sound, stepped}
+use Rattle.demands.proofs.Bridge.{fit-sound, start-fresh, start-fit, stepped}
 
 -- SRD1 and the count as a history leaves them
 record Fitting (r : Registers) : Type 0 where
@@ -67,15 +68,15 @@ fitting-after {u} {img} s f (next {e = e} n t) (suc k) =
     (subst (λ (o : Outcome). Fitting (o .unit .registers)) (n .leads) after) t k
 
 module _ {img : List ℕ} {inputs : Inputs} {cs : List Call} (h : History img inputs cs) (k : ℕ) where
-  fitting : Fitting (unitAfter (h .started .unit) (h .trace) k .registers)
+  fitting : Fitting (unitAfter (h .started .unit) (h .calls .trace) k .registers)
   fitting =
       let none : h .started .unit .registers .mismatches ≡ 0 = ap (λ (u : Port). u .registers .mismatches) (start-fresh h) ∙ fresh-mismatches img inputs in
-      fitting-after (start-sound h) (record { full = λ f. absurd (omega (arith, none, f)); unchecked = λ o. none }) (stepped h) k
+      fitting-after (fit-sound (start-fit h)) (record { full = λ f. absurd (omega (arith, none, f)); unchecked = λ o. none }) (stepped (start-fit h) (h .calls)) k
 
   -- as many counted as lock a unit: it is locked, whatever the image was
-  pub full-is-locked : unitAfter (h .started .unit) (h .trace) k .registers .mismatches ≡ lockAfter → Locked (unitAfter (h .started .unit) (h .trace) k .registers)
+  pub full-is-locked : unitAfter (h .started .unit) (h .calls .trace) k .registers .mismatches ≡ lockAfter → Locked (unitAfter (h .started .unit) (h .calls .trace) k .registers)
   full-is-locked f = record { closed = fitting .full f; full = f }
 
   -- not checked: none is counted
-  pub unchecked-none : unitAfter (h .started .unit) (h .trace) k .registers .srd1 ≡ 0x00 → unitAfter (h .started .unit) (h .trace) k .registers .mismatches ≡ 0
+  pub unchecked-none : unitAfter (h .started .unit) (h .calls .trace) k .registers .srd1 ≡ 0x00 → unitAfter (h .started .unit) (h .calls .trace) k .registers .mismatches ≡ 0
   unchecked-none e = fitting .unchecked e

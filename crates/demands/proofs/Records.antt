@@ -21,13 +21,18 @@ use Rattle.unit.specs.declared.Inputs.{Inputs}
 use Rattle.unit.specs.declared.Phase.{Phase}
 use Rattle.unit.specs.declared.Phase.the-variants.{Asleep, Awake}
 use Rattle.unit.specs.declared.Place.the-variants.{Command, PageRead, PageProgram, UnitProgram, BlockErase, EraseAll, IdCheck}
-use Rattle.unit.specs.Phases.{commandOf, need, positionOf}
+use Rattle.unit.specs.Phases.{Kind, commandOf, need, inside, positionOf}
+use Rattle.unit.specs.Phases.Kind.{page-read, page-program, unit-program, block-erase, erase-all, id-check}
+use Rattle.unit.specs.Phases.Position.{within}
+use Rattle.unit.proofs.Positions.{phase-inside}
+use Rattle.demands.specs.Table.{Inside as InPacket}
+use Rattle.demands.specs.Table.Inside.{in-FF as in-FF′, in-41 as in-41′, in-49 as in-49′, in-20 as in-20′, in-A7 as in-A7′, in-F5 as in-F5′}
 use Rattle.unit.specs.Model.{isOpen, fresh, idle}
 use Rattle.unit.specs.Range.{packetFits, positionFits, srdFits, srd1Fits, registersFit, settingsFit, inRange}
 use Rattle.unit.proofs.Lengths.{few-sized}
 use Rattle.unit.proofs.Ranged.{registers-srd, registers-srd1, registers-rate, registers-mismatches, registers-together, settings-protection, BlankRule, settings-blank, settings-together}
 use Rattle.unit.proofs.Builders.{fresh-phase, fresh-srd, fresh-srd1, fresh-rate, fresh-mismatches, fresh-blank, fresh-protection, fresh-collected, idle-phase, idle-srd, idle-srd1, idle-rate, idle-mismatches, idle-blank, idle-protection, idle-collected}
-use Rattle.demands.specs.Record.{Open, FewSized, PhaseFits, Srd, Srd1, InRange, Idle, Fresh}
+use Rattle.demands.specs.Record.{Open, PhaseFits, Srd, Srd1, InRange, Idle, Fresh}
 use Rattle.demands.specs.Record.PhaseFits.{asleep, at-command, in-FF, in-41, in-49, in-20, in-A7, in-F5}
 use Rattle.demands.specs.Record.Srd.{ready, program-error, erase-error, both-errors}
 use Rattle.demands.specs.Record.Srd1.{not-checked, mismatch, match}
@@ -41,15 +46,11 @@ unfolding isOpen
 open-is u = (eq-eqb (u .registers .srd1) 0x0C, eqb-true (u .registers .srd1) 0x0C)
 
 -- fewer bytes than a packet with a size has
-few : (n : ℕ) (got : List ℕ) → FewSized n got → ltb n (4 + getD (take n got) 3 0) ≡ true
-few n got f = sym (few-sized n got (4 + getD got 3 0) refl) ∙ lt-ltb n (4 + getD got 3 0) (go f)
-  where
-    go : FewSized n got → n < 4 + getD got 3 0
-    go (inl h) = omega arith
-    go (inr h) = h
+few : (n : ℕ) (got : List ℕ) → n < 4 + getD got 3 0 → ltb n (4 + getD (take n got) 3 0) ≡ true
+few n got h = sym (few-sized n got (4 + getD got 3 0) refl) ∙ lt-ltb n (4 + getD got 3 0) h
 
-few-back : (n : ℕ) (got : List ℕ) → ltb n (4 + getD (take n got) 3 0) ≡ true → FewSized n got
-few-back n got e = inr (ltb-true n (4 + getD got 3 0) (few-sized n got (4 + getD got 3 0) refl ∙ e))
+few-back : (n : ℕ) (got : List ℕ) → ltb n (4 + getD (take n got) 3 0) ≡ true → n < 4 + getD got 3 0
+few-back n got e = ltb-true n (4 + getD got 3 0) (few-sized n got (4 + getD got 3 0) refl ∙ e)
 
 module _ (u : Port) where
   fits : {f : Phase} → PhaseFits u f → positionFits (positionOf f) (isOpen (u .registers)) (u .collected) ≡ true
@@ -176,10 +177,9 @@ idle-is =
     record {
       phase = idle-phase;
       srd = idle-srd;
-      srd1 = idle-srd1;
       rate = idle-rate;
       mismatches = idle-mismatches;
-      blank = idle-blank;
+      blankness = inr (λ z. z, idle-blank, idle-srd1);
       protection = idle-protection;
       collected = idle-collected;
     }
@@ -189,10 +189,9 @@ fresh-is img inputs size =
     record {
       phase = fresh-phase img inputs;
       srd = fresh-srd img inputs;
-      srd1 = opened (isBlank part img) refl;
       rate = fresh-rate img inputs;
       mismatches = fresh-mismatches img inputs;
-      blank-flag = flag (isBlank part img) refl;
+      blankness = blankness (isBlank part img) refl;
       protection = fresh-protection img inputs;
       collected = fresh-collected img inputs;
     }
@@ -200,13 +199,11 @@ fresh-is img inputs size =
     not-blank : isBlank part img ≡ false → Blank img → ⊥
     not-blank q b = false≢true (sym q ∙ blank-is img size .0 b)
 
-    opened : (t : Bool) → isBlank part img ≡ t → (Blank img × (fresh img inputs .registers .srd1 ≡ 0x0C)) ⊎ ((Blank img → ⊥) × (fresh img inputs .registers .srd1 ≡ 0x00))
-    opened true q = inl (blank-is img size .1 q, fresh-srd1 img inputs ∙ ap (λ (t : Bool). cond t 0x0C 0x00) q)
-    opened false q = inr (not-blank q, fresh-srd1 img inputs ∙ ap (λ (t : Bool). cond t 0x0C 0x00) q)
-
-    flag : (t : Bool) → isBlank part img ≡ t → (Blank img × (fresh img inputs .settings .blank ≡ true)) ⊎ ((Blank img → ⊥) × (fresh img inputs .settings .blank ≡ false))
-    flag true q = inl (blank-is img size .1 q, fresh-blank img inputs ∙ q)
-    flag false q = inr (not-blank q, fresh-blank img inputs ∙ q)
+    blankness : (t : Bool) → isBlank part img ≡ t
+        → (Blank img × (fresh img inputs .settings .blank ≡ true) × (fresh img inputs .registers .srd1 ≡ 0x0C))
+        ⊎ ((Blank img → ⊥) × (fresh img inputs .settings .blank ≡ false) × (fresh img inputs .registers .srd1 ≡ 0x00))
+    blankness true q = inl (blank-is img size .1 q, fresh-blank img inputs ∙ q, fresh-srd1 img inputs ∙ ap (λ (t : Bool). cond t 0x0C 0x00) q)
+    blankness false q = inr (not-blank q, fresh-blank img inputs ∙ q, fresh-srd1 img inputs ∙ ap (λ (t : Bool). cond t 0x0C 0x00) q)
 
 -- the blocks of the image
 pub block-is : (i k : ℕ) → InBlock i k ↔ ((blockFrom part i ≤ k) × (k < blockFrom part i + blockSize part i))
@@ -262,3 +259,25 @@ place-address {k = k} (block-2 g h) =
     let a : ℕ = k - 4096 + 0xC000 in let e : a - 0xC000 + 4096 ≡ k = omega arith in (a, subst (Address a 2) e (in-2 (omega arith) (omega arith)))
 place-address {k = k} (block-3 g h) =
     let a : ℕ = k - 12288 + 0xE000 in let e : a - 0xE000 + 12288 ≡ k = omega arith in (a, subst (Address a 3) e (in-3 (omega arith) (omega arith)))
+
+-- inside a packet
+pub inside-is : (q : Kind) (n : ℕ) → InPacket (commandOf q) n (Awake (inside q n))
+unfolding commandOf
+inside-is page-read n = in-FF′
+inside-is page-program n = in-41′
+inside-is unit-program n = in-49′
+inside-is block-erase n = in-20′
+inside-is erase-all n = in-A7′
+inside-is id-check n = in-F5′
+
+pub within-inside : {f : Phase} {q : Kind} {n : ℕ} → positionOf f ≡ within q n → InPacket (commandOf q) n f
+within-inside {f} {q} {n} e = subst⁻¹ (InPacket (commandOf q) n) (phase-inside f e) (inside-is q n)
+
+pub inside-within : {f : Phase} {b n : ℕ} → InPacket b n f → (q : Kind) × (b ≡ commandOf q) × (positionOf f ≡ within q n)
+unfolding commandOf
+inside-within in-FF′ = (page-read, refl, refl)
+inside-within in-41′ = (page-program, refl, refl)
+inside-within in-49′ = (unit-program, refl, refl)
+inside-within in-20′ = (block-erase, refl, refl)
+inside-within in-A7′ = (erase-all, refl, refl)
+inside-within in-F5′ = (id-check, refl, refl)

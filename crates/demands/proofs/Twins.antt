@@ -9,7 +9,6 @@ use lib.Seq.{take-take}
 use Rattle.slices.specs.Lists.{Bytes}
 use Rattle.slices.proofs.Lists.{bytes-take, bytes-append}
 use Rattle.unit.specs.declared.Unit.{Unit as Port}
-use Rattle.unit.specs.declared.Registers.{Registers}
 use Rattle.protocol.specs.Outcome.{Outcome}
 use Rattle.protocol.specs.Step.{step, run}
 use Rattle.protocol.specs.Calls.{Left, answered}
@@ -30,7 +29,7 @@ abbrev pub Twin : Port → List ℕ → Port → List ℕ → Type 0
 Twin u img u′ img′ = (bs : List ℕ) → Bytes bs → ShutWithin u img bs → Alike (run u img bs) (run u′ img′ bs)
 
 -- and so they go on after any run
-twin-onward : {u u′ : Port} {img img′ : List ℕ} → Twin u img u′ img′ → (xs : List ℕ) → Bytes xs → ShutWithin u img xs
+pub twin-onward : {u u′ : Port} {img img′ : List ℕ} → Twin u img u′ img′ → (xs : List ℕ) → Bytes xs → ShutWithin u img xs
     → let o = run u img xs in let o′ = run u′ img′ xs in Twin (o .unit) (o .image) (o′ .unit) (o′ .image)
 twin-onward {u} {u′} {img} {img′} t xs bx sx ys by sy =
     let o : Outcome = run u img xs in
@@ -80,18 +79,25 @@ module _ {u u′ : Port} {img img′ : List ℕ} (t : Twin u img u′ img′) (b
   one-alike : Alike (run u img (b ∷ [])) (run u′ img′ (b ∷ []))
   one-alike = t (b ∷ []) (small, tt) (shut-one [] (λ k h. absurd (omega arith)))
 
+  pub one-heard : Alike (step u img b) (step u′ img′ b)
+  one-heard =
+      record {
+        reply = sym (append-nil (step u img b .reply)) ∙ (one-alike .reply ∙ append-nil (step u′ img′ b .reply));
+        phase = one-alike .phase;
+        registers = one-alike .registers;
+        collected = one-alike .collected;
+      }
+
   one-shown : (m j : ℕ) → let o = step u img b in let o′ = step u′ img′ b in
       SameShown (record { call = m; place = j; byte = b; reply = o .reply; unit = o .unit; image = o .image })
       (record { call = m; place = j; byte = b; reply = o′ .reply; unit = o′ .unit; image = o′ .image })
   one-shown m j =
+      let a = one-heard in
       record {
         call = refl;
         place = refl;
         byte = refl;
-        reply = sym (append-nil (step u img b .reply)) ∙ (one-alike .reply ∙ append-nil (step u′ img′ b .reply));
-        srd = ap (λ (r : Registers). r .srd) (one-alike .registers);
-        srd1 = ap (λ (r : Registers). r .srd1) (one-alike .registers);
-        mismatches = ap (λ (r : Registers). r .mismatches) (one-alike .registers);
+        heard = record { reply = a .reply; phase = a .phase; registers = a .registers; collected = a .collected };
       }
 
   one-onward : let o = step u img b in let o′ = step u′ img′ b in Twin (o .unit) (o .image) (o′ .unit) (o′ .image)

@@ -1,30 +1,22 @@
 -- Demand 2: "Every permitted program or erase takes its full effect at its packet's last byte. Nothing else changes the image, and no stream changes a protected block."
-use Prim.Native.Nat.{ℕ, suc, _+_, _-_, _*_, _%_, _≤_, _<_}
+use Prim.Native.Nat.{ℕ, suc, _+_, _*_, _%_, _≤_, _<_}
 use mathlib.Core.Path.{_≡_}
 use mathlib.Core.Logic.{_⊎_}
 use mathlib.Core.List.{List, [], _∷_}
-use lib.ListN.{length, getD, take, drop}
+use lib.ListN.{length, getD}
 use lib.Bits.{bitAnd}
 use Rattle.unit.specs.declared.Unit.{Unit as Port}
 use Rattle.unit.specs.declared.Phase.the-variants.{Awake}
 use Rattle.unit.specs.declared.Place.the-variants.{Command}
 use Rattle.demands.specs.Record.{Open}
 use Rattle.demands.specs.Flash.{InBlock, Address, Unprotected}
-use Rattle.demands.specs.Histories.{Entry, unitAfter, imageAfter, taken}
+use Rattle.demands.specs.Histories.{Entry, unitAfter, imageAfter, bytesTo}
 
 -- where a packet that may write begins: at a command, the unit open, and neither SR4 nor SR5 standing
 pub record Begins (u : Port) : Type 0 where
   pub at-command : u .phase ≡ Awake Command
   pub opened : Open u
   pub ready : u .registers .srd ≡ 0x80
-
--- how far the low 16 address bits plus the number of data may reach: those of a page program to the end of the bank
-abbrev pub pageReach : ℕ
-pageReach = 65536
-
--- those of a unit program not to the bank's last byte (document 02, Item 3)
-abbrev pub unitReach : ℕ
-unitReach = 65535
 
 -- a program may be carried out: there are data, the low 16 address bits plus their number do not exceed what its packet may reach, and each byte lies in a block that is not protected
 pub record MayProgram (reach p a : ℕ) (ds : List ℕ) : Type 0 where
@@ -44,28 +36,26 @@ pub record Erased (P : ℕ → Type 0) (img new : List ℕ) : Type 0 where
   pub there : (i k : ℕ) → InBlock i k → P i → getD new k 0 ≡ 0xFF
   pub elsewhere : (i k : ℕ) → InBlock i k → (P i → ⊥) → getD new k 0 ≡ getD img k 0
 
--- a whole packet that is permitted under protection p, and what it leaves of an image: 41, mid, high, 256 data; 49, low, mid, high, size n, n data;
--- 20, mid, high, D0, an address in a block that is not protected; A7, D0, every block that is not protected
-pub data Carries (p : ℕ) (img : List ℕ) : List ℕ → List ℕ → Type 0 where
-  page : {mid high : ℕ} {ds new : List ℕ} → length ds ≡ 256 → MayProgram pageReach p (256 * mid + 65536 * high) ds
-      → Programmed (256 * mid + 65536 * high) ds img new → Carries p img (0x41 ∷ mid ∷ high ∷ ds) new
-  bytes : {low mid high : ℕ} {ds new : List ℕ} → length ds < 256 → MayProgram unitReach p (low + 256 * mid + 65536 * high) ds
-      → Programmed (low + 256 * mid + 65536 * high) ds img new → Carries p img (0x49 ∷ low ∷ mid ∷ high ∷ length ds ∷ ds) new
-  block : {mid high i k : ℕ} {new : List ℕ} → Address (256 * mid + 65536 * high) i k → Unprotected p i
-      → Erased (λ (j : ℕ). j ≡ i) img new → Carries p img (0x20 ∷ mid ∷ high ∷ 0xD0 ∷ []) new
-  all : {new : List ℕ} → Erased (Unprotected p) img new → Carries p img (0xA7 ∷ 0xD0 ∷ []) new
+-- the bytes of a program packet, with its address, its data and how far the low 16 address bits plus their number may reach: 41, mid, high, 256 data, to the end of the bank;
+-- 49, low, mid, high, size n, n data, not to the bank's last byte (document 02, Item 3)
+pub data Programs : List ℕ → ℕ → List ℕ → ℕ → Type 0 where
+  page : {mid high : ℕ} {ds : List ℕ} → length ds ≡ 256 → Programs (0x41 ∷ mid ∷ high ∷ ds) (256 * mid + 65536 * high) ds 65536
+  bytes : {low mid high : ℕ} {ds : List ℕ} → length ds < 256 → Programs (0x49 ∷ low ∷ mid ∷ high ∷ length ds ∷ ds) (low + 256 * mid + 65536 * high) ds 65535
 
--- a whole packet that is permitted under protection p
+-- a whole packet that is permitted under protection p: a program that may be carried out; 20, mid, high, D0, an address in a block that is not protected; A7, D0
 pub data Permitted (p : ℕ) : List ℕ → Type 0 where
-  page : {mid high : ℕ} {ds : List ℕ} → length ds ≡ 256 → MayProgram pageReach p (256 * mid + 65536 * high) ds → Permitted p (0x41 ∷ mid ∷ high ∷ ds)
-  bytes : {low mid high : ℕ} {ds : List ℕ} → length ds < 256 → MayProgram unitReach p (low + 256 * mid + 65536 * high) ds
-      → Permitted p (0x49 ∷ low ∷ mid ∷ high ∷ length ds ∷ ds)
+  program : {packet ds : List ℕ} {a reach : ℕ} → Programs packet a ds reach → MayProgram reach p a ds → Permitted p packet
   block : {mid high i k : ℕ} → Address (256 * mid + 65536 * high) i k → Unprotected p i → Permitted p (0x20 ∷ mid ∷ high ∷ 0xD0 ∷ [])
   all : Permitted p (0xA7 ∷ 0xD0 ∷ [])
 
--- the bytes of a trace from the j-th to the k-th, both among them
-abbrev pub bytesTo : List Entry → ℕ → ℕ → List ℕ
-bytesTo es j k = take (suc k - j) (drop j (taken es))
+-- and what it leaves of an image
+abbrev pub Leaves : {p : ℕ} {packet : List ℕ} → Permitted p packet → List ℕ → List ℕ → Type 0
+Leaves (program {ds = ds} {a = a} s m) img new = Programmed a ds img new
+Leaves (block {i = i} d f) img new = Erased (λ (j : ℕ). j ≡ i) img new
+Leaves {p} all img new = Erased (Unprotected p) img new
+
+abbrev pub Carries : ℕ → List ℕ → List ℕ → List ℕ → Type 0
+Carries p img packet new = (m : Permitted p packet) × Leaves m img new
 
 -- a permitted packet from its first byte, the j-th, to its last, the k-th: it takes its full effect at its last byte, and none before
 pub record FullEffect (p : ℕ) (img : List ℕ) (es : List Entry) (j k : ℕ) : Type 0 where

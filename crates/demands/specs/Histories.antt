@@ -1,14 +1,16 @@
--- A history: a start, then any calls, byte calls and run calls mixed, each given the unit and image that the last one left. Every call is one that meets the port's own clause.
--- Its trace has an entry for each byte that was taken.
-use Prim.Native.Nat.{ℕ, zero, suc, _≤_}
+-- Calls, byte calls and run calls mixed, each given the unit and image that the last one left; a history is a start, then calls. Every call is one that meets the port's own clause.
+-- Their trace has an entry for each byte that was taken.
+use Prim.Native.Nat.{ℕ, zero, suc, _-_, _≤_}
 use mathlib.Core.Path.{_≡_}
 use mathlib.Core.List.{List, [], _∷_, _++_}
 use lib.ListN.{length, getD, take, drop}
-use Rattle.slices.specs.Lists.{Each, Bytes}
+use Rattle.packets.specs.Pieces.{Each}
+use Rattle.packets.specs.Readings.{Bytes}
 use Rattle.unit.specs.declared.Unit.{Unit as Port}
 use Rattle.unit.specs.declared.Inputs.{Inputs}
 use Rattle.protocol.specs.declared.Started.{Started}
 use Rattle.protocol.specs.Calls.{Left, StartEnsures, ByteEnsures, RunEnsures}
+use Rattle.demands.specs.Record.{InRange}
 
 -- a call, with its reply area as it is lent
 pub data Call : Type 0 where
@@ -69,16 +71,27 @@ pub data Goes : ℕ → Port → List ℕ → List Call → List Left → List E
       → Answers u img c l → Fronts u img c l fronts → Goes (suc m) (l .answer .unit) (l .image) cs ls es
       → Goes m u img (c ∷ cs) (l ∷ ls) (entriesFrom m (brings c) fronts 0 (l .answer .taken) ++ es)
 
--- a history on an image of the right size with a protection number in its range; what a call brings are bytes
+-- calls on a unit and an image: what they bring are bytes
+pub record Calls (u : Port) (img : List ℕ) (cs : List Call) : Type 0 where
+  pub bytes : Each (λ (c : Call). Bytes (brings c)) cs
+  pub lefts : List Left
+  pub trace : List Entry
+  pub goes : Goes 0 u img cs lefts trace
+
+-- a history: a start on an image of the right size with a protection number in its range, then calls
 pub record History (img : List ℕ) (inputs : Inputs) (cs : List Call) : Type 0 where
   pub size : length img ≡ 20480
   pub protection : inputs .protection ≤ 15
-  pub bytes : Each (λ (c : Call). Bytes (brings c)) cs
   pub started : Started
   pub start : StartEnsures img inputs started
-  pub lefts : List Left
-  pub trace : List Entry
-  pub goes : Goes 0 (started .unit) img cs lefts trace
+  pub calls : Calls (started .unit) img cs
+
+-- a unit and an image that a call refuses only for its reply area, whether a start led there or not: a record in range, whose 259 collected are bytes, and the image's size
+pub record Fit (u : Port) (img : List ℕ) : Type 0 where
+  pub range : InRange u
+  pub room : length (u .collected) ≡ 259
+  pub bytes : Bytes (u .collected)
+  pub size : length img ≡ 20480
 
 -- the unit and the image after k bytes of a trace, from a unit and an image on; past the trace's end they stay
 abbrev pub unitAfter : Port → List Entry → ℕ → Port
@@ -100,3 +113,7 @@ taken (e ∷ es) = e .byte ∷ taken es
 pub data At : List Entry → ℕ → Entry → Type 0 where
   here : {e : Entry} {es : List Entry} → At (e ∷ es) zero e
   later : {e f : Entry} {es : List Entry} {k : ℕ} → At es k f → At (e ∷ es) (suc k) f
+
+-- the bytes of a trace from the j-th to the k-th, both among them
+abbrev pub bytesTo : List Entry → ℕ → ℕ → List ℕ
+bytesTo es j k = take (suc k - j) (drop j (taken es))

@@ -2,6 +2,10 @@ pub mod Record
 pub mod Flash
 pub mod Histories
 pub mod Refusals
+pub mod Answered
 pub mod Changes
-pub mod Opening
 pub mod Mismatches
+pub mod Table
+pub mod Opening
+pub mod Locking
+pub mod Demands

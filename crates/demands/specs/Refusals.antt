@@ -1,9 +1,9 @@
--- Demand 1: "A call refuses a wrong image size, a protection number out of range, too little reply room, a unit record out of its ranges, and only then.
+-- Demand 1: "A call refuses a wrong image size, a protection number out of range, too little reply room, a unit record out of its ranges, [..] and only then.
 -- A refusal hands back the unit as given (at start, the fixed idle unit), no reply, and image and reply area unchanged."
 use Prim.Native.Nat.{ℕ, _≤_, _<_}
 use mathlib.Core.Path.{_≡_}
 use mathlib.Core.Logic.{_≢_, _⊎_, _↔_}
-use mathlib.Core.List.{List, [], _∷_}
+use mathlib.Core.List.{List}
 use lib.ListN.{length}
 use Rattle.unit.specs.declared.Unit.{Unit as Port}
 use Rattle.unit.specs.declared.Inputs.{Inputs}
@@ -11,7 +11,6 @@ use Rattle.protocol.specs.declared.Started.{Started}
 use Rattle.protocol.specs.Calls.{Left}
 use Rattle.demands.specs.Record.{InRange, Idle, Fresh}
 use Rattle.demands.specs.Flash.{Blank}
-use Rattle.demands.specs.Histories.{Call, areaOf}
 
 -- a refusal hands everything back as it was given
 pub record HandsBack (u : Port) (img area : List ℕ) (l : Left) : Type 0 where
@@ -35,14 +34,3 @@ pub record Exact (u : Port) (img area : List ℕ) (l : Left) : Type 0 where
   pub room : (l .answer .refusal ≡ 3) ↔ ((length img ≡ 20480) × (length area < 256))
   pub range : (l .answer .refusal ≡ 4) ↔ ((length img ≡ 20480) × (256 ≤ length area) × (InRange u → ⊥))
   pub answer : (l .answer .refusal ≡ 0) ⊎ (((l .answer .refusal ≡ 1) ⊎ (l .answer .refusal ≡ 3) ⊎ (l .answer .refusal ≡ 4)) × HandsBack u img area l)
-
--- a call inside a history: refused with 3 where its reply area is under 256 bytes, everything handed back; not refused where it is not
-pub data Admitted (u : Port) (img area : List ℕ) (l : Left) : Type 0 where
-  too-small : length area < 256 → l .answer .refusal ≡ 3 → HandsBack u img area l → Admitted u img area l
-  large-enough : 256 ≤ length area → l .answer .refusal ≡ 0 → Admitted u img area l
-
--- each call of a list, on the unit and the image that the last one left
-pub data EachAdmitted : Port → List ℕ → List Call → List Left → Type 0 where
-  none : {u : Port} {img : List ℕ} → EachAdmitted u img [] []
-  each : {u : Port} {img : List ℕ} {c : Call} {cs : List Call} {l : Left} {ls : List Left}
-      → Admitted u img (areaOf c) l → EachAdmitted (l .answer .unit) (l .image) cs ls → EachAdmitted u img (c ∷ cs) (l ∷ ls)

@@ -16,7 +16,7 @@ use Rattle.flash.proofs.Outcomes.{sized-true}
 use Rattle.flash.proofs.Effects.{byte-at}
 
 module _ (bs : List Block) (img : List ℕ) (mid high : ℕ) where
-  page-is : (i k : ℕ) → sized bs img ≡ true → find bs (pageAddress mid high) ≡ Inside i k → pagePart bs img mid high ≡ take 256 (drop k img)
+  pub page-is : (i k : ℕ) → sized bs img ≡ true → find bs (pageAddress mid high) ≡ Inside i k → pagePart bs img mid high ≡ take 256 (drop k img)
   unfolding pagePart partAt
   page-is i k s e = rw (s, e)
 

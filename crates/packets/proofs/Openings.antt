@@ -7,8 +7,20 @@ use mathlib.Core.List.{List, [], _++_, append-assoc}
 use lib.ListN.{length, take, drop, length-append, length-drop, take-append-drop}
 use lib.Seq.{take-append-seam}
 use Rattle.packets.specs.Pieces.{joined, Stretch, stretchBytes, Packet, packetBytes, right}
-use Rattle.packets.specs.Readings.{Log, slept, stayed-shut, opened, logBytes, Reads, Reading, Opening, Opens, Shut}
+use Rattle.packets.specs.Readings.{Log, slept, stayed-shut, opened, logBytes, Reads, Reading, Opening}
 use Rattle.packets.proofs.Readings.{one-reading}
+
+-- the log of a port that opened
+abbrev pub Opens : Log → Type 0
+Opens (slept dull zeros) = ⊥
+Opens (stayed-shut dull wake packets rest) = ⊥
+Opens (opened dull wake packets unread) = Unit {0}
+
+-- the log of a port that did not
+abbrev pub Shut : Log → Type 0
+Shut (slept dull zeros) = Unit {0}
+Shut (stayed-shut dull wake packets rest) = Unit {0}
+Shut (opened dull wake packets unread) = ⊥
 
 module _ (ids : List ℕ) where
   -- what is left unread stands at the end

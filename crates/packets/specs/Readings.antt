@@ -10,12 +10,12 @@ use Rattle.packets.specs.Pieces.{Each, joined, Stretch, stretchBytes, Wa
 abbrev pub Bytes : List ℕ → Type 0
 Bytes = Each (λ (b : ℕ). b < 256)
 
--- dull stretches, and zeros to the end
--- dull stretches, the one that wakes, packets that are not the right one, and an unfinished rest
--- dull stretches, the one that wakes, packets that are not the right one, the right one, and what follows
 pub data Log : Type 0 where
+  -- dull stretches, and zeros to the end
   slept : List Stretch → ℕ → Log
+  -- dull stretches, the one that wakes, packets that are not the right one, and an unfinished rest
   stayed-shut : List Stretch → Stretch → List Packet → List ℕ → Log
+  -- dull stretches, the one that wakes, packets that are not the right one, the right one, and what follows
   opened : List Stretch → Stretch → List Packet → List ℕ → Log
 
 -- the bytes of a log: those of its pieces, joined
@@ -49,15 +49,3 @@ pub record Opening (ids bs : List ℕ) : Type 0 where
   pub packets : List Packet
   pub reads : Reads ids (opened dull wake packets [])
   pub whole : bs ≡ logBytes ids (opened dull wake packets [])
-
--- the log of a port that opened
-abbrev pub Opens : Log → Type 0
-Opens (slept dull zeros) = ⊥
-Opens (stayed-shut dull wake packets rest) = ⊥
-Opens (opened dull wake packets unread) = Unit {0}
-
--- the log of a port that did not
-abbrev pub Shut : Log → Type 0
-Shut (slept dull zeros) = Unit {0}
-Shut (stayed-shut dull wake packets rest) = Unit {0}
-Shut (opened dull wake packets unread) = ⊥

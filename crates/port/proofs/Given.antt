@@ -8,7 +8,7 @@ use Rattle.unit.specs.declared.Unit.{Unit as Port}
 use Rattle.unit.proofs.Ranged.{Sound, sound}
 use Rattle.unit.specs.declared.Inputs.{Inputs}
 use Rattle.unit.specs.Model.{fresh, idle}
-use Rattle.protocol.specs.Reasons.{StartReason}
+use Rattle.protocol.proofs.Reasons.{StartReason}
 use Rattle.protocol.specs.Calls.{startCall, startRefusal, refusal}
 use Rattle.protocol.proofs.Refusals.{start-exactly, start-done, start-refused, not-refused}
 use Rattle.port.specs.Parts.{Fine}

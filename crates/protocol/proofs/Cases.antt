@@ -32,9 +32,9 @@ use Rattle.protocol.specs.Commands.{Command as Meaning, commands, lookup
 use Rattle.protocol.specs.Commands.Command.{begin, clear, status, version, time, unknown, rate}
 use Rattle.protocol.specs.Endings.{leaves, pageReply, bankEnd, programmedBy, programs, erases, isRight, afterCheck, finished}
 use Rattle.protocol.specs.Step.{wakes, asleep, body, completes, inPacket, stepAt, step}
-use Rattle.protocol.specs.Changes.{Permitted, Carried, Done, Change}
-use Rattle.protocol.specs.Changes.Carried.{page, bytes, block, all}
-use Rattle.protocol.specs.Changes.Change.{none, last}
+use Rattle.protocol.proofs.Carried.{Permitted, Carried, Done, Change}
+use Rattle.protocol.proofs.Carried.Carried.{page, bytes, block, all}
+use Rattle.protocol.proofs.Carried.Change.{none, last}
 
 -- the registers that a packet may leave: those that were, or one of them set to a number that fits, or those after an ID check
 pub data Leaves (t : Settings) (r : Registers) : Registers → Type 0 where

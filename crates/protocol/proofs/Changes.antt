@@ -5,8 +5,8 @@ use mathlib.Core.List.{List}
 use Rattle.unit.specs.declared.Unit.{Unit as Port}
 use Rattle.protocol.specs.Outcome.{Outcome}
 use Rattle.protocol.specs.Step.{step}
-use Rattle.protocol.specs.Changes.{Change}
-use Rattle.protocol.specs.Changes.Change.{none, last}
+use Rattle.protocol.proofs.Carried.{Change}
+use Rattle.protocol.proofs.Carried.Change.{none, last}
 use Rattle.protocol.proofs.Cases.{Leads, leads}
 use Rattle.protocol.proofs.Cases.Ending.{says-and-ends, writes-and-ends}
 use Rattle.protocol.proofs.Cases.Leads.{nothing, sleeps, wakes-up, begins, goes-on, ends}

@@ -1,3 +1,5 @@
+pub mod Reasons
+pub mod Carried
 pub mod Steps
 pub mod Mismatches
 pub mod Cases

@@ -14,9 +14,9 @@ use Rattle.unit.specs.declared.Settings.{Settings}
 use Rattle.unit.specs.Phases.{Kind}
 use Rattle.protocol.specs.Outcome.{Outcome}
 use Rattle.protocol.specs.Step.{step, run}
-use Rattle.protocol.specs.Changes.{Carried, Change}
-use Rattle.protocol.specs.Changes.Carried.{page, bytes, block, all}
-use Rattle.protocol.specs.Changes.Change.{none, last}
+use Rattle.protocol.proofs.Carried.{Carried, Change}
+use Rattle.protocol.proofs.Carried.Carried.{page, bytes, block, all}
+use Rattle.protocol.proofs.Carried.Change.{none, last}
 use Rattle.protocol.proofs.Sound.{size-step, settings-step, size-run, settings-run}
 use Rattle.protocol.proofs.Changes.{changes}
 

@@ -17,9 +17,9 @@ use Rattle.unit.specs.Range.{inRange}
 use Rattle.protocol.specs.declared.Started.{Started}
 use Rattle.protocol.specs.Step.{step}
 use Rattle.protocol.specs.Calls.{startRefusal, startCall, refusal, Left, refused, answered, byteCall, walked, runCall}
-use Rattle.protocol.specs.Reasons.{StartReason, Reason}
-use Rattle.protocol.specs.Reasons.StartReason.{fine as start-fine, image as start-image, protection}
-use Rattle.protocol.specs.Reasons.Reason.{fine, image, room, range}
+use Rattle.protocol.proofs.Reasons.{StartReason, Reason}
+use Rattle.protocol.proofs.Reasons.StartReason.{fine as start-fine, image as start-image, protection}
+use Rattle.protocol.proofs.Reasons.Reason.{fine, image, room, range}
 
 -- a call's answer has the number that was found
 number : {A : Type 0} (f : A → ℕ) (n : ℕ) (x y : A) → f x ≡ 0 → f y ≡ n → f (cond (eqb n 0) x y) ≡ n

@@ -13,14 +13,14 @@ use Rattle.slices.proofs.Lists.{and-both, same-true, same-refl}
 use Rattle.flash.proofs.Outcomes.{true-sized}
 use Rattle.unit.specs.declared.Unit.{Unit as Port}
 use Rattle.unit.specs.declared.Registers.{Registers}
-use Rattle.unit.specs.Model.{withSrd1, ended, isOpen}
+use Rattle.unit.specs.Model.{ended, isOpen}
 use Rattle.unit.specs.Phases.{positionOf}
 use Rattle.unit.specs.Range.{positionFits, registersFit, inRange}
 use Rattle.unit.proofs.Ranged.{BlankRule, settings-blank}
 use Rattle.protocol.specs.Outcome.{quiet}
 use Rattle.protocol.specs.Endings.{rightId, isRight, afterCheck, finished}
 use Rattle.protocol.specs.Step.{run}
-use Rattle.protocol.specs.Rows.{Ready, Ends, Kept, rightPacket, afterWrong}
+use Rattle.protocol.specs.Rows.{Ready, Ends, Kept, rightPacket, srd1Is, afterWrong}
 use Rattle.protocol.specs.Rows.Row.{after-F5}
 use Rattle.protocol.proofs.Mismatches.{blank-checked, wrong-checked, right-checked, locked-checked}
 use Rattle.protocol.proofs.RowsLaws.{ends}
@@ -67,7 +67,7 @@ module _ {u : Port} (ready : Ready u) (img : List ℕ) (low mid high : ℕ) (ds 
   check-blank e =
       let o : u .registers .srd1 ≡ 0x0C = blank-open ready e in
       let right : Bool = isRight img (low ∷ mid ∷ high ∷ length ds ∷ ds) in
-      (o, check-ends (u .registers) (ap (λ (b : Bool). afterCheck b (u .registers) right) e ∙ (blank-checked (u .registers) right ∙ ap (withSrd1 (u .registers)) (sym o))))
+      (o, check-ends (u .registers) (ap (λ (b : Bool). afterCheck b (u .registers) right) e ∙ (blank-checked (u .registers) right ∙ ap (srd1Is (u .registers)) (sym o))))
 
   -- P16: otherwise, if it is not the right packet, SRD1 becomes 04, also if it was 0C; and it is counted (Item 5)
   pub check-wrong : length img ≡ 20480 → u .settings .blank ≡ false → 0xF5 ∷ low ∷ mid ∷ high ∷ length ds ∷ ds ≢ rightPacket img
@@ -86,9 +86,9 @@ module _ {u : Port} (ready : Ready u) (img : List ℕ) (size : length img ≡ 20
       (rw (blank, true-sized part img size, same-refl (0xDF ∷ 0xFF ∷ 0x00 ∷ 0x07 ∷ map (byteAt part img) idAddresses)) e)
 
   -- P16: otherwise SRD1 becomes 0C if the address is 00FFDF, n is 7 and the bytes equal the seven ID bytes now in the image, where fewer than three wrong packets were counted (Item 5)
-  pub check-right : u .registers .mismatches < 3 → Ends u (withSrd1 (u .registers) 0x0C) (Kept img) [] (run u img (rightPacket img))
+  pub check-right : u .registers .mismatches < 3 → Ends u (srd1Is (u .registers) 0x0C) (Kept img) [] (run u img (rightPacket img))
   check-right few = right-ends _ (right-checked (u .registers) few)
 
   -- Item 5: where three were, it is read to its end too, but SRD1 becomes 04
-  pub check-locked : 3 ≤ u .registers .mismatches → Ends u (withSrd1 (u .registers) 0x04) (Kept img) [] (run u img (rightPacket img))
+  pub check-locked : 3 ≤ u .registers .mismatches → Ends u (srd1Is (u .registers) 0x04) (Kept img) [] (run u img (rightPacket img))
   check-locked most = right-ends _ (locked-checked (u .registers) most)

@@ -17,11 +17,11 @@ use Rattle.flash.proofs.Effects.{block-effect}
 use Rattle.flash.proofs.Keeps.{all-effect}
 use Rattle.unit.specs.declared.Unit.{Unit as Port}
 use Rattle.unit.specs.declared.Registers.{Registers}
-use Rattle.unit.specs.Model.{withSrd, ended, isOpen}
+use Rattle.unit.specs.Model.{ended, isOpen}
 use Rattle.protocol.specs.Outcome.{quiet}
 use Rattle.protocol.specs.Endings.{nothing, reports, erases, finished}
 use Rattle.protocol.specs.Step.{run}
-use Rattle.protocol.specs.Rows.{Ready, Ends, Kept, Scope, Erases}
+use Rattle.protocol.specs.Rows.{Ready, Ends, Kept, Scope, Erases, srdIs}
 use Rattle.protocol.specs.Rows.Row.{after-20, after-A7}
 use Rattle.protocol.specs.Rows.Scope.{block-of, every-block}
 use Rattle.protocol.specs.Rows.Erases.{block, all}
@@ -51,8 +51,8 @@ chosen-alike c d f e =
     }
 
 -- SRD that was 80 and becomes 80
-srd-stays : (r : Registers) → r .srd ≡ 0x80 → withSrd r 0x80 ≡ r
-srd-stays r h = ap (withSrd r) (sym h)
+srd-stays : (r : Registers) → r .srd ≡ 0x80 → srdIs r 0x80 ≡ r
+srd-stays r h = ap (srdIs r) (sym h)
 
 module _ {u : Port} (ready : Ready u) (opened : isOpen (u .registers) ≡ true) (img : List ℕ) where
   comes : {packet : List ℕ} {scope : Scope} {confirm : ℕ} → Erases packet scope confirm → run u img packet ≡ erases u img confirm (attempt scope (u .settings .protection) img)
@@ -79,10 +79,10 @@ module _ {u : Port} (ready : Ready u) (opened : isOpen (u .registers) ≡ true) 
         ended-by (u .registers) (Kept img) img refl (rw (stands (u .registers) h) (cond-same (eqb confirm 0xFF) (nothing u img)))
 
     -- P15: otherwise confirm other than D0 sets SR4 and SR5
-    pub erase-unconfirmed : u .registers .srd ≡ 0x80 → confirm ≢ 0xFF → confirm ≢ 0xD0 → Ends u (withSrd (u .registers) 0xB0) (Kept img) [] (run u img packet)
+    pub erase-unconfirmed : u .registers .srd ≡ 0x80 → confirm ≢ 0xFF → confirm ≢ 0xD0 → Ends u (srdIs (u .registers) 0xB0) (Kept img) [] (run u img packet)
     unfolding erases
     erase-unconfirmed h f d =
-        ended-by (withSrd (u .registers) 0xB0) (Kept img) img refl (rw (ne-eqb confirm 0xFF f, none-stands (u .registers) h, ne-eqb confirm 0xD0 d))
+        ended-by (srdIs (u .registers) 0xB0) (Kept img) img refl (rw (ne-eqb confirm 0xFF f, none-stands (u .registers) h, ne-eqb confirm 0xD0 d))
 
     -- confirmed, and no error stands
     confirmed : u .registers .srd ≡ 0x80 → confirm ≡ 0xD0 → (w : Written) → attempt scope (u .settings .protection) img ≡ w → erases u img confirm (attempt scope (u .settings .protection) img) ≡ reports u 0xA0 w
@@ -91,16 +91,16 @@ module _ {u : Port} (ready : Ready u) (opened : isOpen (u .registers) ≡ true) 
 
   -- a block erase that is confirmed, and no error stands
   module _ {packet : List ℕ} {a : ℕ} (is : Erases packet (block-of a) 0xD0) (h : u .registers .srd ≡ 0x80) where
-    not-erased : free (u .settings .protection) (find part a) ≡ false → Ends u (withSrd (u .registers) 0xA0) (Kept img) [] (run u img packet)
+    not-erased : free (u .settings .protection) (find part a) ≡ false → Ends u (srdIs (u .registers) 0xA0) (Kept img) [] (run u img packet)
     not-erased e =
-        ended-by is (withSrd (u .registers) 0xA0) (Kept img) img refl (confirmed is h refl (written img false) (erase-refused part (u .settings .protection) img a e))
+        ended-by is (srdIs (u .registers) 0xA0) (Kept img) img refl (confirmed is h refl (written img false) (erase-refused part (u .settings .protection) img a e))
 
     -- P15: otherwise block erase of an outside block sets SR5
-    pub erase-outside : find part a ≡ Outside → Ends u (withSrd (u .registers) 0xA0) (Kept img) [] (run u img packet)
+    pub erase-outside : find part a ≡ Outside → Ends u (srdIs (u .registers) 0xA0) (Kept img) [] (run u img packet)
     erase-outside e = not-erased (not-free-outside (u .settings .protection) e)
 
     -- P15: and so does block erase of a protected block
-    pub erase-protected : {i k : ℕ} → find part a ≡ Inside i k → u .settings .protection / 2 ^ i % 2 ≡ 1 → Ends u (withSrd (u .registers) 0xA0) (Kept img) [] (run u img packet)
+    pub erase-protected : {i k : ℕ} → find part a ≡ Inside i k → u .settings .protection / 2 ^ i % 2 ≡ 1 → Ends u (srdIs (u .registers) 0xA0) (Kept img) [] (run u img packet)
     erase-protected e z = not-erased (not-free-protected (u .settings .protection) e z)
 
     -- P15, P4: else the block becomes FF, by any address in the block

@@ -17,11 +17,11 @@ use Rattle.flash.proofs.Outcomes.{true-sized, program-refused, program-done}
 use Rattle.flash.proofs.Effects.{program-effect, good-each, each-good}
 use Rattle.unit.specs.declared.Unit.{Unit as Port}
 use Rattle.unit.specs.Phases.Kind.{page-program, unit-program}
-use Rattle.unit.specs.Model.{withSrd, isOpen}
+use Rattle.unit.specs.Model.{isOpen}
 use Rattle.protocol.specs.Outcome.{Outcome}
 use Rattle.protocol.specs.Endings.{nothing, reports, bankEnd, reaching, programmedBy, programs, finished}
 use Rattle.protocol.specs.Step.{run}
-use Rattle.protocol.specs.Rows.{Ready, Ends, Kept, Programs, May, MayNot, Verified}
+use Rattle.protocol.specs.Rows.{Ready, Ends, Kept, Programs, May, MayNot, Verified, srdIs}
 use Rattle.protocol.specs.Rows.Row.{after-41, after-49}
 use Rattle.protocol.specs.Rows.Programs.{page, bytes}
 use Rattle.protocol.specs.Rows.Verified.{equal, differs}
@@ -78,10 +78,10 @@ module _ {u : Port} (ready : Ready u) (opened : isOpen (u .registers) ≡ true) 
         ∙ (ap (programs u img) e ∙ ap (λ (t : Bool). cond t (nothing u img) (reports u 0x90 w)) (none-stands (u .registers) h))
 
     -- P14: otherwise, if n is 0, or the low 16 address bits plus n exceed what its packet may reach, or a byte lies outside or in a protected block, nothing is written and SR4 is set
-    pub program-forbidden : u .registers .srd ≡ 0x80 → MayNot most (u .settings .protection) a ds → Ends u (withSrd (u .registers) 0x90) (Kept img) [] (run u img packet)
+    pub program-forbidden : u .registers .srd ≡ 0x80 → MayNot most (u .settings .protection) a ds → Ends u (srdIs (u .registers) 0x90) (Kept img) [] (run u img packet)
     program-forbidden h m =
-        subst (Ends u (withSrd (u .registers) 0x90) (Kept img) []) (sym (reported h (written img false) (refuses (may-not-permitted most (u .settings .protection) a ds m))))
-        (ends u (withSrd (u .registers) 0x90) (Kept img) img [] refl)
+        subst (Ends u (srdIs (u .registers) 0x90) (Kept img) []) (sym (reported h (written img false) (refuses (may-not-permitted most (u .settings .protection) a ds m))))
+        (ends u (srdIs (u .registers) 0x90) (Kept img) img [] refl)
       where
         refuses : (most < a % 65536 + length ds) ⊎ (permitted part (u .settings .protection) a ds ≡ false) → reaching most (u .settings .protection) img a ds ≡ written img false
         refuses (inl g) = rw (lt-leb (a % 65536 + length ds) most g)
@@ -89,7 +89,7 @@ module _ {u : Port} (ready : Ready u) (opened : isOpen (u .registers) ≡ true) 
 
     -- P14: otherwise every byte is programmed, and SR4 is set if some byte then differs from its data
     pub program-carried-out : length img ≡ 20480 → u .registers .srd ≡ 0x80 → May most (u .settings .protection) a ds
-        → (srd : ℕ) × Verified a ds (run u img packet .image) srd × Ends u (withSrd (u .registers) srd) (Programmed part a ds img) [] (run u img packet)
+        → (srd : ℕ) × Verified a ds (run u img packet .image) srd × Ends u (srdIs (u .registers) srd) (Programmed part a ds img) [] (run u img packet)
     unfolding new
     program-carried-out size h m =
         let p : ℕ = u .settings .protection in
@@ -97,6 +97,6 @@ module _ {u : Port} (ready : Ready u) (opened : isOpen (u .registers) ≡ true) 
         let g : permitted part p a ds ≡ true = may-permitted most p a ds m in
         let e : reaching most p img a ds ≡ written (new p a ds img s g) (good p a ds img s g) = rw (le-leb (a % 65536 + length ds) most (m .bank)) (done p a ds img s g) in
         let srd : ℕ = cond (good p a ds img s g) 0x80 0x90 in
-        subst (λ (o : Outcome). (srd : ℕ) × Verified a ds (o .image) srd × Ends u (withSrd (u .registers) srd) (Programmed part a ds img) [] o)
+        subst (λ (o : Outcome). (srd : ℕ) × Verified a ds (o .image) srd × Ends u (srdIs (u .registers) srd) (Programmed part a ds img) [] o)
         (sym (reported h (written (new p a ds img s g) (good p a ds img s g)) e))
-        (srd, verified p a ds img s g, ends u (withSrd (u .registers) srd) (Programmed part a ds img) (new p a ds img s g) [] (program-effect part rising p a img ds s g))
+        (srd, verified p a ds img s g, ends u (srdIs (u .registers) srd) (Programmed part a ds img) (new p a ds img s g) [] (program-effect part rising p a img ds s g))

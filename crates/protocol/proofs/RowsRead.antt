@@ -5,13 +5,13 @@ use mathlib.Core.Bool.{true}
 use mathlib.Core.Logic.{inr}
 use mathlib.Core.Path.{_≡_, refl, ap, sym, _∙_, subst}
 use mathlib.Core.List.{List, [], _∷_}
-use lib.ListN.{length, replicate}
+use lib.ListN.{length, take, drop, replicate}
 use Rattle.flash.specs.declared.Found.the-variants.{Inside, Outside}
 use Rattle.flash.specs.Blocks.{part, find, sized, pageAddress}
 use Rattle.flash.specs.Image.{byteAt, pagePart}
 use Rattle.flash.proofs.Places.{rising}
 use Rattle.flash.proofs.Outcomes.{true-sized}
-use Rattle.flash.proofs.Pages.{page-outside-empty, page-long, page-bytes}
+use Rattle.flash.proofs.Pages.{page-is, page-outside-empty, page-long, page-bytes}
 use Rattle.unit.specs.declared.Unit.{Unit as Port}
 use Rattle.unit.specs.Model.{ended, isOpen}
 use Rattle.protocol.specs.Outcome.{says}
@@ -36,6 +36,14 @@ module _ {u : Port} (ready : Ready u) (opened : isOpen (u .registers) ≡ true) 
   replied l e =
       subst (Ends u (u .registers) (Kept img) l) (sym (row-comes-to ready img after-FF (inr opened) ∙ ap (says (ended u (u .registers)) img) e))
       (ends u (u .registers) (Kept img) img l refl)
+
+  -- the same, as the part of the image from the page's place on
+  pub read-part : {i k : ℕ} → find part (256 * mid + 65536 * high) ≡ Inside i k → Ends u (u .registers) (Kept img) (take 256 (drop k img)) (run u img (0xFF ∷ mid ∷ high ∷ []))
+  read-part {i} {k} e =
+      let s : sized part img ≡ true = true-sized part img size in
+      let f : find part (pageAddress mid high) ≡ Inside i k = ap (find part) address ∙ e in
+      let page : List ℕ = pagePart part img mid high in
+      replied (take 256 (drop k img)) (full-reply page (page-long part img mid high rising i k s f) ∙ page-is part img mid high i k s f)
 
   -- P1: FF, mid, high: replies the 256 bytes of the page
   pub read-inside : {i k : ℕ} → find part (256 * mid + 65536 * high) ≡ Inside i k

@@ -9,12 +9,12 @@ use borrow.Author.Tests.{ne-eqb}
 use Rattle.slices.specs.Lists.{Each}
 use Rattle.unit.specs.declared.Unit.{Unit as Port}
 use Rattle.unit.specs.declared.Registers.{Registers}
-use Rattle.unit.specs.Model.{withSrd, withRate, ended, isOpen}
+use Rattle.unit.specs.Model.{ended, isOpen}
 use Rattle.protocol.specs.Outcome.{says, quiet}
 use Rattle.protocol.specs.Commands.{Command, commands, lookup, meaning, needsOpen, versionBytes, effect, dropped, commanded}
 use Rattle.protocol.specs.Commands.Command.{unknown, clear, status, version, time, rate}
 use Rattle.protocol.specs.Step.{step}
-use Rattle.protocol.specs.Rows.{Ready, Dropped, Ends, Kept, Guarded}
+use Rattle.protocol.specs.Rows.{Ready, Dropped, Ends, Kept, Guarded, srdIs, rateIs}
 use Rattle.protocol.specs.Rows.Guarded.{drops-FF, drops-41, drops-49, drops-20, drops-A7, drops-50}
 use Rattle.protocol.proofs.Steps.{step-commanding}
 use Rattle.protocol.proofs.RowsLaws.{open-takes, all-take, step-taken, ends}
@@ -28,7 +28,7 @@ module _ {u : Port} (ready : Ready u) (img : List ℕ) where
   ended-by b r said e = subst (Ends u r (Kept img) said) (sym e) (ends u r (Kept img) img said refl)
 
   -- P6: 50: SRD becomes 80 (SRD1 stays)
-  pub row-50 : isOpen (u .registers) ≡ true → Ends u (withSrd (u .registers) 0x80) (Kept img) [] (step u img 0x50)
+  pub row-50 : isOpen (u .registers) ≡ true → Ends u (srdIs (u .registers) 0x80) (Kept img) [] (step u img 0x50)
   unfolding meaning commands effect
   row-50 opened = ended-by 0x50 _ [] (step-taken ready img 0x50 clear refl (open-takes u clear opened))
 
@@ -43,7 +43,7 @@ module _ {u : Port} (ready : Ready u) (img : List ℕ) where
   row-FB = ended-by 0xFB _ _ (step-taken ready img 0xFB version refl (all-take u version refl))
 
   -- P10: B0 to B4: replies the same byte, rate index 0 to 4
-  pub row-B0-to-B4 : (n : ℕ) → n ≤ 4 → Ends u (withRate (u .registers) n) (Kept img) ((0xB0 + n) ∷ []) (step u img (0xB0 + n))
+  pub row-B0-to-B4 : (n : ℕ) → n ≤ 4 → Ends u (rateIs (u .registers) n) (Kept img) ((0xB0 + n) ∷ []) (step u img (0xB0 + n))
   unfolding meaning commands needsOpen effect
   row-B0-to-B4 n h = ended-by (0xB0 + n) _ _ (step-taken ready img (0xB0 + n) (rate n) (means n h) (all-take u (rate n) refl))
     where

@@ -26,9 +26,9 @@ use Rattle.unit.proofs.Builders.{phased-settings, ended-settings, sound-phased,
 use Rattle.unit.proofs.Inside.{longer-settings, sound-longer}
 use Rattle.protocol.specs.Outcome.{Outcome}
 use Rattle.protocol.specs.Step.{body, step, run}
-use Rattle.protocol.specs.Changes.{Carried, Change}
-use Rattle.protocol.specs.Changes.Carried.{page, bytes, block, all}
-use Rattle.protocol.specs.Changes.Change.{none, last}
+use Rattle.protocol.proofs.Carried.{Carried, Change}
+use Rattle.protocol.proofs.Carried.Carried.{page, bytes, block, all}
+use Rattle.protocol.proofs.Carried.Change.{none, last}
 use Rattle.protocol.proofs.Cases.{Leaves, Ending, Leads, leads}
 use Rattle.protocol.proofs.Cases.Leaves.{as-were, srd-set, checks, rate-set}
 use Rattle.protocol.proofs.Cases.Ending.{says-and-ends, writes-and-ends}

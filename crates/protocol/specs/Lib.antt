@@ -3,9 +3,7 @@ pub mod Commands
 pub mod Endings
 pub mod Step
 pub mod Calls
-pub mod Reasons
 pub mod Loops
-pub mod Changes
 pub mod Playing
 pub mod Sessions
 pub mod Rows

@@ -16,7 +16,7 @@ use Rattle.unit.specs.declared.Phase.the-variants.{Awake}
 use Rattle.unit.specs.declared.Place.the-variants.{Command}
 use Rattle.unit.specs.Phases.{Kind, inside}
 use Rattle.unit.specs.Phases.Kind.{page-read, page-program, unit-program, block-erase, erase-all, id-check}
-use Rattle.unit.specs.Model.{withSrd1, withMismatches, isOpen}
+use Rattle.unit.specs.Model.{isOpen}
 use Rattle.unit.specs.Range.{inRange}
 use Rattle.protocol.specs.Outcome.{Outcome}
 
@@ -129,6 +129,16 @@ abbrev pub rightPacket : List ℕ → List ℕ
 rightPacket img =
     0xF5 ∷ 0xDF ∷ 0xFF ∷ 0x00 ∷ 0x07 ∷ map (byteAt part img) (0xFFDF ∷ 0xFFE3 ∷ 0xFFEB ∷ 0xFFEF ∷ 0xFFF3 ∷ 0xFFF7 ∷ 0xFFFB ∷ [])
 
+-- the registers as before but for SRD, SRD1 or the rate, field by field
+abbrev pub srdIs : Registers → ℕ → Registers
+srdIs r s = record { srd = s; srd1 = r .srd1; rate = r .rate; mismatches = r .mismatches }
+
+abbrev pub srd1Is : Registers → ℕ → Registers
+srd1Is r s = record { srd = r .srd; srd1 = s; rate = r .rate; mismatches = r .mismatches }
+
+abbrev pub rateIs : Registers → ℕ → Registers
+rateIs r n = record { srd = r .srd; srd1 = r .srd1; rate = n; mismatches = r .mismatches }
+
 -- the registers after an ID packet that is not the right one: SRD1 04, and one more is counted, up to 3 (document 02, Item 5)
 abbrev pub afterWrong : Registers → Registers
-afterWrong r = withMismatches (withSrd1 r 0x04) (min 3 (suc (r .mismatches)))
+afterWrong r = record { srd = r .srd; srd1 = 0x04; rate = r .rate; mismatches = min 3 (suc (r .mismatches)) }

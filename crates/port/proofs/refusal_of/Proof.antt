@@ -1,7 +1,7 @@
 -- `port::refusal_of` meets its contract: its tests are those of the table in order.
 use mathlib.Core.Path.{sym, _∙_}
 use denote.Ref.{now}
-use Rattle.protocol.specs.Reasons.Reason.{fine, image, room, range}
+use Rattle.protocol.proofs.Reasons.Reason.{fine, image, room, range}
 use Rattle.protocol.proofs.Refusals.{exactly}
 use native.Mathlib.Omega.{arith}
 use borrow.Author.Needs.{needs}

@@ -1,7 +1,7 @@
 -- `port::start` meets its contract: its tests are those of a start in order, and what it answers is the idle or the fresh unit.
 use native.Mathlib.Omega.{arith}
 use denote.Ref.{now}
-use Rattle.protocol.specs.Reasons.StartReason.{fine, image, protection}
+use Rattle.protocol.proofs.Reasons.StartReason.{fine, image, protection}
 use Rattle.port.proofs.Given.{refused-start, fresh-start}
 use borrow.Author.Needs.{needs}
 use Rattle.port.proofs.start.Statement.{statement}

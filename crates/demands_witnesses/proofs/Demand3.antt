@@ -13,7 +13,7 @@ use Rattle.packets.proofs.Decisions.{reads?}
 use Rattle.packets.proofs.Openings.{shut-where}
 use lib.Dec.{ltb}
 use borrow.Author.Tests.{ltb-true}
-use Rattle.slices.specs.Lists.{Bytes}
+use Rattle.packets.specs.Readings.{Bytes}
 use Rattle.slices.proofs.Lists.{and-both}
 use Rattle.flash.specs.Blocks.{sized, holds, find, placeOf}
 use Rattle.flash.specs.Image.{byteAt, storedId, isBlank}
@@ -25,13 +25,14 @@ use Rattle.protocol.specs.Endings.{rightId, isRight, judged, counted, afterChec
 use Rattle.protocol.specs.Step.{wakes, asleep, body, completes, inPacket, stepAt, step}
 use Rattle.protocol.specs.Calls.{refusal, byteCall, runCall}
 use Rattle.protocol.specs.Sessions.{image}
 use Rattle.demands.specs.Flash.{ids, Blank}
 use Rattle.demands.specs.Histories.{Call, Entry, History, taken, At}
 use Rattle.demands.specs.Histories.Call.{byte, run}
 use Rattle.demands.specs.Opening.{FirstOpen, OpeningInTime, SameShown, Unseen}
 use Rattle.demands.proofs.Traces.{taken-long}
-use Rattle.demands.proofs.Bridge.{entriesOf, trace-is, history-exists}
+use Rattle.demands.proofs.Bridge.{entriesOf, trace-is}
+use Rattle.demands.proofs.Exists.{history-exists}
 use Rattle.demands.proofs.Demand3.{opens-exactly, unseen}
 
 -- each is a byte, computed
 abbrev under : List ℕ → Bool
@@ -88,11 +89,11 @@ pub opening : History image (inputs 0) (calls right)
 unfolding image right
 opening = history image 0 right refl (omega arith) refl
 
-pub opens-inside : (h : History image (inputs 0) (calls right)) → FirstOpen (h .started .unit) (h .trace) 29
+pub opens-inside : (h : History image (inputs 0) (calls right)) → FirstOpen (h .started .unit) (h .calls .trace) 29
 unfolding image right
 opens-inside h =
-    let e : taken (h .trace) ≡ woken right = ap taken (trace-is h) ∙ right-taken in
-    opens-exactly h filled 29 (omega (arith, taken-long (h .trace), ap length e)) .1
+    let e : taken (h .calls .trace) ≡ woken right = ap taken (trace-is h) ∙ right-taken in
+    opens-exactly h filled 29 (omega (arith, taken-long (h .calls .trace), ap length e)) .1
     (subst (λ (l : List ℕ). OpeningInTime (ids image) (take 29 l)) (sym e)
     (record {
       opening = record { dull = []; wake = record { zeros = 16; last = 0xB0 }; packets = []; reads = (tt, (omega arith, refl), tt); whole = refl };
@@ -123,10 +124,10 @@ wrong-whole : woken wrong ≡ logBytes (ids image) wrong-log
 unfolding wrong
 wrong-whole = refl
 
-pub never-opens : (h : History image (inputs 0) (calls wrong)) (k : ℕ) → k ≤ length (h .trace) → FirstOpen (h .started .unit) (h .trace) k → ⊥
+pub never-opens : (h : History image (inputs 0) (calls wrong)) (k : ℕ) → k ≤ length (h .calls .trace) → FirstOpen (h .started .unit) (h .calls .trace) k → ⊥
 never-opens h k l f =
-    let e : taken (h .trace) ≡ woken wrong = ap taken (trace-is h) ∙ wrong-taken in
-    shut-where (ids image) (woken wrong) refl (record { log = wrong-log; reads = wrong-reads; whole = wrong-whole }) .0 tt k (omega (arith, taken-long (h .trace), ap length e))
+    let e : taken (h .calls .trace) ≡ woken wrong = ap taken (trace-is h) ∙ wrong-taken in
+    shut-where (ids image) (woken wrong) refl (record { log = wrong-log; reads = wrong-reads; whole = wrong-whole }) .0 tt k (omega (arith, taken-long (h .calls .trace), ap length e))
     (subst (λ (l : List ℕ). Opening (ids image) (take k l)) e (opens-exactly h filled k l .0 f .opening))
 
 -- under another protection, on an image that holds 00 where the first holds FF: nothing tells them apart up to the byte that opens them
@@ -143,5 +144,5 @@ unfolding image other
 not-told-apart = unseen opening opening′ refl filled (λ b. omega arith)
 
 -- the byte that opens them included
-pub opening-byte : (e : Entry) → At (opening .trace) 28 e → (f : Entry) × At (opening′ .trace) 28 f × SameShown e f
+pub opening-byte : (e : Entry) → At (opening .calls .trace) 28 e → (f : Entry) × At (opening′ .calls .trace) 28 f × SameShown e f
 opening-byte e a = not-told-apart .bytes 28 e a (opens-inside opening .before)

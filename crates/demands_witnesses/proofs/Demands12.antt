@@ -2,12 +2,13 @@
 use Prim.Native.Nat.{ℕ, _+_, _-_}
 use native.Mathlib.Omega.{arith}
 use mathlib.Core.Bool.{Bool, true, _&&_}
-use mathlib.Core.Path.{_≡_, refl, ap, subst⁻¹}
+use mathlib.Core.Path.{_≡_, refl, ap, subst, subst⁻¹}
 use mathlib.Core.List.{List, [], _∷_, _++_, map}
 use lib.ListN.{length, getD, replicate, drop}
 use lib.Dec.{ltb}
 use borrow.Author.Tests.{ltb-true}
-use Rattle.slices.specs.Lists.{Each, Bytes}
+use Rattle.packets.specs.Pieces.{Each}
+use Rattle.packets.specs.Readings.{Bytes}
 use Rattle.slices.proofs.Lists.{and-both}
 use Rattle.flash.specs.Blocks.{sized, holds, find, placeOf, guarded, free}
 use Rattle.flash.specs.Image.{byteAt, storedId, isBlank, programmed, permitted, burnt, program}
@@ -21,14 +22,17 @@ use Rattle.protocol.specs.Endings.{bankEnd, programmedBy, programs, rightId, is
 use Rattle.protocol.specs.Step.{wakes, asleep, body, completes, inPacket, stepAt, step}
 use Rattle.protocol.specs.Calls.{startRefusal, startCall, refusal, Left, byteCall, runCall}
 use Rattle.protocol.specs.Sessions.{image}
+use Rattle.demands.specs.Flash.{Protected}
 use Rattle.demands.specs.Flash.InBlock.{block-0}
 use Rattle.demands.specs.Flash.Address.{in-0}
-use Rattle.demands.specs.Histories.{Call, brings, Entry, History, unitAfter, imageAfter}
+use Rattle.demands.specs.Histories.{Call, brings, Entry, History, unitAfter, imageAfter, bytesTo}
 use Rattle.demands.specs.Histories.Call.{byte, run}
-use Rattle.demands.specs.Changes.{Begins, Permitted, bytesTo, FullEffect}
-use Rattle.demands.specs.Changes.Permitted.{bytes}
-use Rattle.demands.proofs.Bridge.{entriesOf, start-fresh, lefts-are, trace-is, history-exists}
+use Rattle.demands.specs.Changes.{Begins, Permitted, FullEffect}
+use Rattle.demands.specs.Changes.Programs.{bytes}
+use Rattle.demands.specs.Changes.Permitted.{program as may-program}
+use Rattle.demands.proofs.Bridge.{entriesOf, start-fresh, start-protection, start-fit, lefts-are, trace-is}
+use Rattle.demands.proofs.Exists.{history-exists}
 use Rattle.demands.proofs.Demand2.{protected-kept, full-effect}
 
 -- sixteen zeros and B0; a 70 with one byte too little room; the right ID packet; 0F programmed over F0 at 02000, its last byte by a byte call
 unfoldable pub area : List ℕ
@@ -68,7 +72,7 @@ unfolding image calls tested all-tested
 a-history = history-exists image (inputs 0) calls refl (omega arith) (all-bytes calls refl)
 
 -- the second call is refused, and takes no byte
-pub refused-between : (h : History image (inputs 0) calls) → map (λ (l : Left). l .answer .refusal) (h .lefts) ≡ 0 ∷ 3 ∷ 0 ∷ 0 ∷ 0 ∷ []
+pub refused-between : (h : History image (inputs 0) calls) → map (λ (l : Left). l .answer .refusal) (h .calls .lefts) ≡ 0 ∷ 3 ∷ 0 ∷ 0 ∷ 0 ∷ []
 unfolding area calls image sized holds find placeOf guarded free byteAt storedId isBlank programmed permitted burnt program begun fresh phased longer ended isOpen standing commandOf need packetFits positionFits srdFits srd1Fits registersFit blankFits settingsFit inRange commands meaning needsOpen effect dropped commanded bankEnd programmedBy programs rightId isRight judged counted afterCheck finished wakes asleep body completes inPacket stepAt step refusal byteCall runCall
 refused-between h = ap (map (λ (l : Left). l .answer .refusal)) (lefts-are h)
 
@@ -85,24 +89,26 @@ unfolding area calls image sized holds find placeOf guarded free byteAt storedId
 computed =
     record { long = refl; begins = record { at-command = refl; opened = refl; ready = refl }; packet = refl; old = refl; new = refl }
 
-pub shows : (h : History image (inputs 0) calls) → Shows (h .started .unit) (h .trace)
-shows h = subst⁻¹ (λ (u : Port). Shows u (h .trace)) (start-fresh h) (subst⁻¹ (Shows (fresh image (inputs 0))) (trace-is h) computed)
+pub shows : (h : History image (inputs 0) calls) → Shows (h .started .unit) (h .calls .trace)
+shows h = subst⁻¹ (λ (u : Port). Shows u (h .calls .trace)) (start-fresh h) (subst⁻¹ (Shows (fresh image (inputs 0))) (trace-is h) computed)
 
 -- that packet is permitted, so it takes its full effect at its last byte
 may : Permitted 0 (0x49 ∷ 0x00 ∷ 0x20 ∷ 0x00 ∷ 0x01 ∷ 0x0F ∷ [])
 may =
-    bytes {low = 0x00} {mid = 0x20} {high = 0x00} {ds = 0x0F ∷ []} (omega arith)
+    may-program (bytes {low = 0x00} {mid = 0x20} {high = 0x00} {ds = 0x0F ∷ []} (omega arith))
     (record { some = omega arith; bank = omega arith; free = λ j h. (0, 0x2000 + j - 0x2000, in-0 {a = 0x2000 + j} (omega arith) (omega arith), refl) })
 
-pub carried-out : (h : History image (inputs 0) calls) → FullEffect 0 image (h .trace) 29 34
+pub carried-out : (h : History image (inputs 0) calls) → FullEffect 0 image (h .calls .trace) 29 34
 carried-out h =
     let w = shows h in
-    full-effect h 29 34 (omega arith) (omega (arith, w .long)) (w .begins) (subst⁻¹ (Permitted 0) (w .packet) may)
+    let p : h .started .unit .settings .protection ≡ 0 = start-protection h in
+    subst (λ (p : ℕ). FullEffect p image (h .calls .trace) 29 34) p
+    (full-effect (start-fit h) (h .calls) 29 34 (omega arith) (omega (arith, w .long)) (w .begins) (subst⁻¹ (λ (p : ℕ). Permitted p (bytesTo (h .calls .trace) 29 34)) p (subst⁻¹ (Permitted 0) (w .packet) may)))
 
 -- with block 0 protected the same calls leave it alone
-pub protected-byte : (h : History image (inputs 1) calls) (k : ℕ) → getD (imageAfter image (h .trace) k) 0 0 ≡ 0xF0
+pub protected-byte : (h : History image (inputs 1) calls) (k : ℕ) → getD (imageAfter image (h .calls .trace) k) 0 0 ≡ 0xF0
 unfolding image
-protected-byte h k = protected-kept h {i = 0} {x = 0} refl (block-0 (omega arith)) k
+protected-byte h k = protected-kept (start-fit h) (h .calls) {i = 0} {x = 0} (subst⁻¹ (λ (p : ℕ). Protected p 0) (start-protection h) refl) (block-0 (omega arith)) k
 
 -- each number of a start is given (session 12): an image of 20,479 or 20,481 bytes; protection 15 and 16
 pub starts : map (λ (r : Started). r .refusal) (startCall (drop 1 image) (inputs 0) ∷ startCall (0xFF ∷ image) (inputs 0) ∷ startCall image (inputs 15) ∷ startCall image (inputs 16) ∷ []) ≡ 1 ∷ 1 ∷ 0 ∷ 2 ∷ []
@@ -137,5 +143,5 @@ computed-change : LastByteChanges (entriesOf 0 (fresh image (inputs 0)) image pa
 unfolding area page-calls image sized holds find placeOf guarded free byteAt storedId isBlank programmed permitted burnt program begun fresh phased longer ended isOpen standing commandOf need packetFits positionFits srdFits srd1Fits registersFit blankFits settingsFit inRange commands meaning needsOpen effect dropped commanded bankEnd programmedBy programs rightId isRight judged counted afterCheck finished wakes asleep body completes inPacket stepAt step refusal byteCall runCall
 computed-change = (refl, refl)
 
-pub page-changes : (h : History image (inputs 0) page-calls) → LastByteChanges (h .trace)
+pub page-changes : (h : History image (inputs 0) page-calls) → LastByteChanges (h .calls .trace)
 page-changes h = subst⁻¹ LastByteChanges (trace-is h) computed-change

@@ -25,13 +25,14 @@ use Rattle.protocol.specs.Endings.{rightId, isRight, judged, counted, afterChec
 use Rattle.protocol.specs.Step.{wakes, asleep, body, completes, inPacket, stepAt, step}
 use Rattle.protocol.specs.Calls.{refusal, byteCall, runCall}
 use Rattle.protocol.specs.Sessions.{image}
 use Rattle.demands.specs.Flash.{ids}
 use Rattle.demands.specs.Histories.{Entry, History, unitAfter, taken}
-use Rattle.demands.specs.Opening.{FirstOpen, OpeningInTime, FirstLocked}
+use Rattle.demands.specs.Locking.{FirstLocked}
+use Rattle.demands.specs.Opening.{FirstOpen, OpeningInTime}
 use Rattle.demands.proofs.Traces.{taken-long}
 use Rattle.demands.proofs.Bridge.{entriesOf, start-fresh, trace-is}
 use Rattle.demands.proofs.Demand3.{opens-exactly}
-use Rattle.demands.proofs.Witnesses3.{calls, woken, history, filled}
+use Rattle.demands_witnesses.proofs.Demand3.{calls, woken, history, filled}
 
 -- the right ID packet; another last ID byte; size 0; another address, and one byte
 abbrev right-id : List ℕ
@@ -72,11 +73,11 @@ two-reads : Reads (ids image) (log-of two-wrong [])
 unfolding image reads? decide
 two-reads = decide-iff (reads? (ids image) (log-of two-wrong [])) .0 refl
 
-pub two-opens : (h : History image (inputs 0) (calls after-two)) → FirstOpen (h .started .unit) (h .trace) 46
+pub two-opens : (h : History image (inputs 0) (calls after-two)) → FirstOpen (h .started .unit) (h .calls .trace) 46
 unfolding image after-two
 two-opens h =
-    let e : taken (h .trace) ≡ woken after-two = ap taken (trace-is h) ∙ two-taken in
-    opens-exactly h filled 46 (omega (arith, taken-long (h .trace), ap length e)) .1
+    let e : taken (h .calls .trace) ≡ woken after-two = ap taken (trace-is h) ∙ two-taken in
+    opens-exactly h filled 46 (omega (arith, taken-long (h .calls .trace), ap length e)) .1
     (subst (λ (l : List ℕ). OpeningInTime (ids image) (take 46 l)) (sym e)
     (record { opening = record { dull = []; wake = record { zeros = 16; last = 0xB0 }; packets = two-wrong; reads = two-reads; whole = refl }; few = omega arith }))
 
@@ -100,9 +101,9 @@ three-whole : woken after-three ≡ logBytes (ids image) (log-of three-wrong (0x
 unfolding image after-three
 three-whole = refl
 
-pub three-never-open : (h : History image (inputs 0) (calls after-three)) (k : ℕ) → k ≤ length (h .trace) → FirstOpen (h .started .unit) (h .trace) k → ⊥
+pub three-never-open : (h : History image (inputs 0) (calls after-three)) (k : ℕ) → k ≤ length (h .calls .trace) → FirstOpen (h .started .unit) (h .calls .trace) k → ⊥
 three-never-open h k l f =
-    let e : taken (h .trace) ≡ woken after-three = ap taken (trace-is h) ∙ three-taken in
+    let e : taken (h .calls .trace) ≡ woken after-three = ap taken (trace-is h) ∙ three-taken in
     let o : OpeningInTime (ids image) (take k (woken after-three)) = subst (λ (l : List ℕ). OpeningInTime (ids image) (take k l)) e (opens-exactly h filled k l .0 f) in
     let q = opening-front (ids image) (woken after-three) refl k (o .opening) (record { log = log-of three-wrong (0x70 ∷ []); reads = three-reads; whole = three-whole }) in
     let p : three-wrong ≡ o .opening .packets = cc in
@@ -131,8 +132,8 @@ locks =
       before = λ j h k. omega (arith, k .full, few-at 39 (fresh image (inputs 0)) (entriesOf 0 (fresh image (inputs 0)) image (calls after-three)) (omega arith) refl j (omega arith));
     }
 
-pub three-lock : (h : History image (inputs 0) (calls after-three)) → FirstLocked (h .started .unit) (h .trace) 40
-three-lock h = subst⁻¹ (λ (u : Port). FirstLocked u (h .trace) 40) (start-fresh h) (subst⁻¹ (λ (es : List Entry). FirstLocked (fresh image (inputs 0)) es 40) (trace-is h) locks)
+pub three-lock : (h : History image (inputs 0) (calls after-three)) → FirstLocked (h .started .unit) (h .calls .trace) 40
+three-lock h = subst⁻¹ (λ (u : Port). FirstLocked u (h .calls .trace) 40) (start-fresh h) (subst⁻¹ (λ (es : List Entry). FirstLocked (fresh image (inputs 0)) es 40) (trace-is h) locks)
 
 -- right, wrong, right, wrong, right, wrong, right
 unfoldable pub by-turns : List ℕ
@@ -152,5 +153,5 @@ turns-computed : After-each (fresh image (inputs 0)) (entriesOf 0 (fresh image (
 unfolding by-turns calls image sized holds find placeOf byteAt storedId isBlank begun fresh phased longer ended isOpen commandOf need packetFits positionFits srdFits srd1Fits registersFit blankFits settingsFit inRange commands meaning needsOpen effect dropped commanded rightId isRight judged counted afterCheck finished wakes asleep body completes inPacket stepAt step refusal byteCall runCall
 turns-computed = refl
 
-pub turns-count : (h : History image (inputs 0) (calls by-turns)) → After-each (h .started .unit) (h .trace)
-turns-count h = subst⁻¹ (λ (u : Port). After-each u (h .trace)) (start-fresh h) (subst⁻¹ (After-each (fresh image (inputs 0))) (trace-is h) turns-computed)
+pub turns-count : (h : History image (inputs 0) (calls by-turns)) → After-each (h .started .unit) (h .calls .trace)
+turns-count h = subst⁻¹ (λ (u : Port). After-each u (h .calls .trace)) (start-fresh h) (subst⁻¹ (After-each (fresh image (inputs 0))) (trace-is h) turns-computed)

@@ -1,0 +1,3 @@
+pub mod Demands12
+pub mod Demand3
+pub mod Item5
