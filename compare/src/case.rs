@@ -110,6 +110,15 @@ impl Case {
     }
 }
 
+/// The cases as a batch.
+pub fn lay_all<'a>(cases: impl IntoIterator<Item = &'a Case>) -> Vec<u8> {
+    let mut bytes = Vec::new();
+    for case in cases {
+        case.lay(&mut bytes);
+    }
+    bytes
+}
+
 pub fn calls(group: &Group) -> usize {
     if group.run {
         1

@@ -13,6 +13,13 @@ impl Events {
         *self.0.entry(key.into()).or_default() += 1;
     }
 
+    /// Counts once whatever the other has met.
+    pub fn note_met(&mut self, other: Events) {
+        for key in other.0.into_keys() {
+            self.note(key);
+        }
+    }
+
     /// Prints how often each of these was met, and says whether all were met often enough.
     pub fn report(&self, wanted: &[&str]) -> bool {
         let mut enough = true;

@@ -39,7 +39,7 @@ impl Line<'_> {
         self.bytes.push(0xB0);
     }
 
-    fn id_packet(&mut self, address: [u8; 3], data: &[u8]) {
+    pub fn id_packet(&mut self, address: [u8; 3], data: &[u8]) {
         self.bytes.push(0xF5);
         self.bytes.extend(address);
         self.bytes.push(data.len() as u8);
@@ -51,7 +51,7 @@ impl Line<'_> {
         self.id_packet([0xDF, 0xFF, 0x00], &id);
     }
 
-    fn wrong(&mut self) {
+    pub fn wrong(&mut self) {
         let mut id = self.id.to_vec();
         let mut address = [0xDF, 0xFF, 0x00];
         match self.random.below(9) {
@@ -148,7 +148,7 @@ impl Line<'_> {
     }
 
     /// A packet that a closed unit drops.
-    fn open_packet(&mut self) {
+    pub fn open_packet(&mut self) {
         match self.random.below(12) {
             0 | 1 => {
                 let page = self.page_bytes();
@@ -191,7 +191,7 @@ impl Line<'_> {
         }
     }
 
-    fn short(&mut self) {
+    pub fn short(&mut self) {
         let b = self.random.of(&[
             0x50, 0x50, 0x50, 0x70, 0x70, 0xFB, 0xB0, 0xB1, 0xB2, 0xB3, 0xB4, 0xB5, 0x00, 0x75,
             0x71, 0x77, 0xFD, 0x01, 0xFE,

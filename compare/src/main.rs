@@ -1,4 +1,4 @@
-//! Holds the proved port, or the proved planner, to the independent second program: both answer the same cases, and the answers are compared byte for byte.
+//! Holds the proved port, or the proved planner, to the independent second program: both answer the same cases, and the answers are compared byte for byte. And holds the proved port to itself, on pairs of images.
 
 use std::path::PathBuf;
 use std::process::ExitCode;
@@ -9,11 +9,16 @@ mod case;
 mod draw;
 mod events;
 mod line;
+mod pair_draw;
+mod pair_history;
+mod pair_judge;
+mod pairs;
 mod plan_draw;
 mod plan_rows;
 mod plans;
 mod programs;
 mod random;
+mod reading;
 mod sessions;
 mod watch;
 
@@ -28,15 +33,13 @@ const BATCH: usize = 250;
 const USAGE: &str = "usage: compare [plans] CASES SEED FOLDER PORT.. -- REFERENCE..\n\
     CASES cases are drawn from the number SEED and given to both commands in batches; FOLDER holds the files in between.\n\
     Before them the twelve sessions of document 01, with document 02's Items 3 and 5, are played and held to typed values.\n\
-    With 'plans' the cases are clocks and rates for the planner (Item 7), and typed plans and a source's table come before them.";
+    With 'plans' the cases are clocks and rates for the planner (Item 7), and typed plans and a source's table come before them.\n\
+    usage: compare pairs PAIRS SEED FOLDER PORT..\n\
+    PAIRS pairs of cases are drawn from the number SEED: two images with the same ID, the same bytes by different calls. The port's two answers are compared, up to the byte that opens the unit (demand 3).";
 
 /// What both programs answer to these cases.
 fn ask(programs: &Programs, cases: &[Case]) -> Result<(Vec<u8>, Vec<u8>), String> {
-    let mut bytes = Vec::new();
-    for case in cases {
-        case.lay(&mut bytes);
-    }
-    programs.ask(&bytes)
+    programs.ask(&case::lay_all(cases))
 }
 
 /// Says where two answers to a case first differ.
@@ -198,32 +201,31 @@ fn compare(programs: &Programs, count: usize, seed: u64) -> Result<bool, String>
 
 fn main() -> ExitCode {
     let mut args: Vec<String> = std::env::args().skip(1).collect();
-    let of_plans = args.first().is_some_and(|a| a == "plans");
-    if of_plans {
-        args.remove(0);
-    }
-    let split = args.iter().position(|a| a == "--");
-    let (Some(split), Some(Ok(count)), Some(Ok(seed))) = (
-        split,
+    let mode = match args.first().map(String::as_str) {
+        Some("plans" | "pairs") => args.remove(0),
+        _ => String::new(),
+    };
+    let split = args.iter().position(|a| a == "--").unwrap_or(args.len());
+    let reference = args.get(split + 1..).unwrap_or_default().to_vec();
+    // pairs have no second program, the others do
+    let fit = split >= 4 && reference.is_empty() == (mode == "pairs");
+    let (true, Some(Ok(count)), Some(Ok(seed))) = (
+        fit,
         args.first().map(|a| a.parse::<usize>()),
         args.get(1).map(|a| a.parse::<u64>()),
     ) else {
         eprintln!("{USAGE}");
         return ExitCode::from(2);
     };
-    if split < 4 || split + 1 >= args.len() {
-        eprintln!("{USAGE}");
-        return ExitCode::from(2);
-    }
     let programs = Programs {
         folder: PathBuf::from(&args[2]),
         port: args[3..split].to_vec(),
-        reference: args[split + 1..].to_vec(),
+        reference,
     };
-    let done = if of_plans {
-        plans::compare(&programs, count, seed)
-    } else {
-        compare(&programs, count, seed)
+    let done = match mode.as_str() {
+        "plans" => plans::compare(&programs, count, seed),
+        "pairs" => pairs::compare(&programs, count, seed),
+        _ => compare(&programs, count, seed),
     };
     match done {
         Ok(true) => ExitCode::SUCCESS,

@@ -8,6 +8,7 @@ pub struct Programs {
     /// Where the files in between stand.
     pub folder: PathBuf,
     pub port: Vec<String>,
+    /// Empty where the port is asked alone.
     pub reference: Vec<String>,
 }
 
@@ -27,12 +28,21 @@ fn answers(command: &[String], batch: &Path, out: &Path) -> Result<Vec<u8>, Stri
 }
 
 impl Programs {
+    fn batch(&self) -> PathBuf {
+        self.folder.join("batch")
+    }
+
+    /// What the port's program answers to a batch.
+    pub fn ask_port(&self, bytes: &[u8]) -> Result<Vec<u8>, String> {
+        let batch = self.batch();
+        fs::write(&batch, bytes).map_err(|e| format!("{}: {e}", batch.display()))?;
+        answers(&self.port, &batch, &self.folder.join("port.out"))
+    }
+
     /// What the port's program and the second program answer to a batch.
     pub fn ask(&self, bytes: &[u8]) -> Result<(Vec<u8>, Vec<u8>), String> {
-        let batch = self.folder.join("batch");
-        fs::write(&batch, bytes).map_err(|e| format!("{}: {e}", batch.display()))?;
-        let port = answers(&self.port, &batch, &self.folder.join("port.out"))?;
-        let reference = answers(&self.reference, &batch, &self.folder.join("reference.out"))?;
-        Ok((port, reference))
+        let port = self.ask_port(bytes)?;
+        let out = self.folder.join("reference.out");
+        Ok((port, answers(&self.reference, &self.batch(), &out)?))
     }
 }

@@ -106,15 +106,17 @@ const WANTED: &[&str] = &[
     "written: up to 65535",
 ];
 
-enum Phase {
+pub enum Phase {
+    /// With the count of zeros.
     Asleep(usize),
     Command,
+    /// With the command byte, and what has followed it.
     Packet(u8, Vec<u8>),
 }
 
 #[derive(Default)]
 pub struct Watch {
-    events: Events,
+    pub events: Events,
 }
 
 /// The block of an address and its place in the image.
@@ -129,12 +131,13 @@ fn find(address: usize) -> Option<(usize, usize)> {
 }
 
 /// What follows F5 in the right ID packet of an image, as it is at the start: few cases change it.
-fn stored_id(image: &[u8]) -> Vec<u8> {
+pub fn stored_id(image: &[u8]) -> Vec<u8> {
     let id = ID_PLACES.map(|k| image.get(k).copied().unwrap_or(0));
     [&[0xDF, 0xFF, 0x00, 0x07], &id[..]].concat()
 }
 
-fn length(command: u8, got: &[u8]) -> usize {
+/// How many bytes follow the command byte, as far as those that have come say it.
+pub fn length(command: u8, got: &[u8]) -> usize {
     match command {
         0xFF => 2,
         0x41 => 258,
@@ -145,7 +148,7 @@ fn length(command: u8, got: &[u8]) -> usize {
 }
 
 impl Watch {
-    fn note(&mut self, key: impl Into<String>) {
+    pub fn note(&mut self, key: impl Into<String>) {
         self.events.note(key);
     }
 
@@ -224,7 +227,8 @@ impl Watch {
         }
     }
 
-    fn refusals(&mut self, case: &Case, answer: &Answer) {
+    /// Counts a case's calls by refusal, and its runs that are empty or stop early.
+    pub fn refusals(&mut self, case: &Case, answer: &Answer) {
         for call in &answer.calls {
             let group = &case.groups[call.group];
             let kind = if group.run { "run" } else { "byte" };
@@ -239,7 +243,7 @@ impl Watch {
         }
     }
 
-    fn asleep(&mut self, zeros: usize, b: u8) -> Phase {
+    pub fn asleep(&mut self, zeros: usize, b: u8) -> Phase {
         match b {
             0x00 => {
                 self.note("asleep: 00");
@@ -260,7 +264,7 @@ impl Watch {
         }
     }
 
-    fn command(&mut self, b: u8, open: bool) -> Phase {
+    pub fn command(&mut self, b: u8, open: bool) -> Phase {
         let state = if open { "open" } else { "closed" };
         match b {
             0xFF | 0x41 | 0x49 | 0x20 | 0xA7 | 0x50 if !open => {
@@ -274,7 +278,7 @@ impl Watch {
     }
 
     /// A complete ID packet of a unit that did not start blank, after so many wrong ones; how many there are then.
-    fn check(&mut self, got: &[u8], open: bool, srd1: u8, wrong: u8, stored: &[u8]) -> u8 {
+    pub fn check(&mut self, got: &[u8], open: bool, srd1: u8, wrong: u8, stored: &[u8]) -> u8 {
         let state = if open { "open" } else { "closed" };
         if wrong >= 3 {
             let which = if got == stored {
