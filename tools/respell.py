@@ -22,6 +22,7 @@ ALIASES = {
     "Shown·cut": "cut_of",
     "Shown·hundredths": "hundredths_of",
     "Text·digit": "digit_of",
+    "start_Fine": "start_fine",
 }
 
 
@@ -48,6 +49,16 @@ def declared():
             m = re.match(r"^\s*module (" + WORD + r") ", line)
             if m:
                 own[m.group(1)].add(path)
+        # and what is declared otherwise, several constructors on a line or a name under a 'where': each name with a dash or a hump
+        # that is not the library's
+        text = open(path, encoding="utf-8").read()
+        library = from_library(text)
+        for line in text.split("\n"):
+            if not line.lstrip().startswith("--") and not line.startswith("use "):
+                for m in re.finditer(r"(?<![\w-])" + TOKEN.pattern, line.split(" -- ")[0]):
+                    word = m.group(0)
+                    if word not in library and "·" not in word and re.match(r"[a-z].*(-|[a-z][A-Z])", word):
+                        own[word].add(path)
     return own
 
 
@@ -55,6 +66,10 @@ def snake(name):
     name = name.replace("→", "_to_")
     name = re.sub(r"([a-z0-9])([A-Z])", r"\1_\2", name) if "-" not in name else name
     return name.replace("-", "_").lower().replace("__", "_")
+
+
+# two that are no lemmas: flash has a definition of the one name, unit one of the other
+OTHERWISE = {"erase-all": "all_erase", "at-command": "at_a_command"}
 
 
 def camel(name):
@@ -78,7 +93,7 @@ def mapping(own):
             # of two that fall together the lemma, with a dash, makes way
             target = new + "_lem" if len(olds) > 1 and "-" in old else new
             if old != target:
-                table[old] = target
+                table[old] = OTHERWISE.get(old, target)
     return table
 
 

@@ -29,8 +29,8 @@ module _ (s : State) (t : Settings) (got img : List ℕ) where
   program_reports w e = rw e
 
   -- an erase by its tests: the confirm byte is FF, an error stands, the confirm byte is D0
-  abbrev byTests : Written → Bool → Bool → Bool → Outcome
-  byTests w f z d =
+  abbrev by_tests : Written → Bool → Bool → Bool → Outcome
+  by_tests w f z d =
       cond f (after_packet t s.registers img)
       (cond z (after_packet t s.registers img)
       (cond (not d) (after_packet t (with_srd s.registers 0xB0) img)
@@ -43,7 +43,7 @@ module _ (s : State) (t : Settings) (got img : List ℕ) where
   erase_reports confirm w = go (eqb confirm 0xD0) (standing s.registers) refl
     where
       go : (d z : Bool) → eqb confirm 0xD0 ≡ d → (d && not z) ≡ true
-          → byTests w (eqb confirm 0xFF) z d
+          → by_tests w (eqb confirm 0xFF) z d
           ≡ after_packet t (with_srd s.registers (cond w.good 0x80 0xA0)) w.image
       go true false d e = rw (eqb-true confirm 0xD0 d)
       go true true d e = absurd (false≢true e)
@@ -55,7 +55,7 @@ module _ (s : State) (t : Settings) (got img : List ℕ) where
   erase_stays confirm w = go (eqb confirm 0xFF) (standing s.registers) (eqb confirm 0xD0)
     where
       go : (f z d : Bool) → (d && not z) ≡ false
-          → byTests w f z d
+          → by_tests w f z d
           ≡ after_packet t (cond f s.registers (cond z s.registers (with_srd s.registers 0xB0))) img
       go true z d e = refl
       go false true d e = refl

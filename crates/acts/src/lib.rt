@@ -1,4 +1,6 @@
 // What a packet does once its bytes have all come: to the registers and the lent image, asking nothing of the caller.
+#![tactic(auto)]
+
 ghost use Rattle.std.specs.Prelude.{◌≡◌, true, false, cond, ◌+◌, ◌%◌, leb};
 ghost use Rattle.flash.specs.Image.{written};
 ghost use Rattle.unit.specs.Model.{with_srd};

@@ -1,4 +1,6 @@
 // Waking, and the bytes at a command position. Their replies have at most 8 bytes and are handed back by value, so that they ask nothing of their caller.
+#![tactic(auto)]
+
 ghost use Rattle.std.specs.Prelude.{◌≡◌, cond, List, ℕ};
 ghost use Rattle.unit.specs.declared.Settings.{Settings};
 ghost use Rattle.unit.specs.declared.Phase.TheVariants.{Awake};
@@ -11,7 +13,7 @@ ghost use Rattle.commands.specs.Clauses.{said, counted, quietly, AsleepEnsures, 
 use unit::{Phase, Place, State, Unit};
 
 // What such a byte leads to: the state, and the first `len` bytes of `reply`.
-#[derive(Drop)]
+#[derive(Clone, Copy)]
 pub struct Said {
     pub state: State,
     pub reply: [u8; 8],

@@ -22,7 +22,7 @@ use Rattle.protocol.proofs.Sound.{sound_run, size_run, settings_run}
 use Rattle.protocol.proofs.Refusals.{start_exactly, start_done}
 use Rattle.demands.specs.Histories.{Call, brings, Answers, Entry, entries_from, Fronts, Goes, Calls, History, Fit, unit_after, image_after, taken, At}
 use Rattle.demands.specs.Histories.Goes.{ends, goes}
-use Rattle.demands.proofs.Records.{in_range_lem as range-is}
+use Rattle.demands.proofs.Records.{in_range_lem as range_is}
 use Rattle.demands.proofs.Traces.{Step, Stepped, stepped_append, entry_steps, taken_bytes, sound_after, size_after, unit_run, image_run}
 use Rattle.demands.proofs.Traces.Stepped.{done}
 use Rattle.demands.proofs.Exists.{left_of, lefts_of, answers_left, fronts_of, fronts_are}
@@ -96,7 +96,7 @@ went_stepped (calls s size y k w) = stepped_append (called_stepped y k) (called_
 
 -- calls on a unit in range and an image of the right size: their trace is the run of their bytes
 pub fit_sound : {u : Port} {img : List ℕ} → Fit u img → Sound u
-fit_sound {u} f = sound u ((range-is u).0 f.range) f.room (given_bytes u.collected f.bytes)
+fit_sound {u} f = sound u ((range_is u).0 f.range) f.room (given_bytes u.collected f.bytes)
 
 module _ {u : Port} {img : List ℕ} {cs : List Call} (f : Fit u img) (c : Calls u img cs) where
   pub went : Went 0 u img cs c.lefts c.trace
@@ -134,7 +134,7 @@ module _ {u : Port} {img : List ℕ} {cs : List Call} (f : Fit u img) (c : Calls
 
 -- a sound unit is in range
 pub sound_fit : {u : Port} {img : List ℕ} → Sound u → length img ≡ 20480 → Fit u img
-sound_fit {u} s size = record { range = (range-is u).1 (in_range_lem s); room = s.room; bytes = bytes_given u.collected s.bytes; size = size }
+sound_fit {u} s size = record { range = (range_is u).1 (in_range_lem s); room = s.room; bytes = bytes_given u.collected s.bytes; size = size }
 
 -- a history: its unit is the fresh one, and in range
 module _ {img : List ℕ} {inputs : Inputs} {cs : List Call} (h : History img inputs cs) where

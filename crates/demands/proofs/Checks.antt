@@ -21,7 +21,7 @@ use Rattle.unit.specs.declared.Registers.{Registers}
 use Rattle.unit.specs.declared.Phase.TheVariants.{Awake}
 use Rattle.unit.specs.declared.Place.TheVariants.{Command, IdCheck}
 use Rattle.unit.specs.Phases.{need, command_of}
-use Rattle.unit.specs.Phases.Kind.{id-check}
+use Rattle.unit.specs.Phases.Kind.{id_check}
 use Rattle.unit.specs.Model.{no_bytes, with_rate, with_srd1, is_open}
 use Rattle.unit.proofs.Ranged.{Sound, in_range_lem, closed_filled}
 use Rattle.protocol.specs.Outcome.{Outcome}
@@ -53,7 +53,7 @@ commanding r = record { phase = Awake Command; registers = r; collected = no_byt
 -- a unit with such a view
 module _ {c : ℕ} {v : View} {u : Port} (a : At (Awake Command) c v) (sound : Sound u) (seen : Seen v u) where
   ready : Ready u
-  ready = record { at_command_lem = seen.phase ∙ a.phase; ranged = in_range_lem sound; room = sound.room }
+  ready = record { at_a_command = seen.phase ∙ a.phase; ranged = in_range_lem sound; room = sound.room }
 
   closed : is_open u.registers ≡ false
   unfolding is_open
@@ -78,7 +78,7 @@ module _ {c : ℕ} {v : View} {u : Port} (a : At (Awake Command) c v) (sound : S
       }
 
   -- up to the last byte of an ID packet the registers stay, so the unit stays closed
-  shut_inside : (img xs : List ℕ) → Row id-check 0xF5 xs → ShutWithin u img (0xF5 ∷ xs)
+  shut_inside : (img xs : List ℕ) → Row id_check 0xF5 xs → ShutWithin u img (0xF5 ∷ xs)
   shut_inside img xs row zero h o = seen_shut a.closed seen o
   shut_inside img xs row (suc j) h o =
       seen_shut a.closed seen (ap (λ (r : Registers). r.srd1) (sym (front ready img row (inl refl) j (omega arith)).registers) ∙ o)
@@ -180,11 +180,11 @@ pub packets : {i : List ℕ} {c : ℕ} {v : View} (ps : List Packet) → EachPie
     → Comes i v (At (Awake Command) (min lock_after (c + checks ps))) (joined packet_bytes ps)
 packets {c = c} {v = v} [] w h a =
     let e : c ≡ min lock_after (c + 0) = omega arith in none (subst (λ (n : ℕ). At (Awake Command) n v) e a)
-packets {i} {c} {v} (lone b ∷ ps) w h a = then (packet a (lone b) w.0) (λ x k. packets ps w.1 h k)
+packets {i} {c} {v} (lone b ∷ ps) w h a = then (packet a (lone b) w.0) (λ x k. packets {v = x} ps w.1 h k)
 packets {i} {c} {v} (check low mid high ds ∷ ps) w h a =
     let e : min lock_after (min lock_after (suc c) + checks ps) ≡ min lock_after (c + suc (checks ps)) = omega arith in
     subst (λ (n : ℕ). Comes i v (At (Awake Command) n) (joined packet_bytes (check low mid high ds ∷ ps))) e
-    (then (packet a (check low mid high ds) w.0) (λ x k. packets ps w.1 (omega arith) k))
+    (then (packet a (check low mid high ds) w.0) (λ x k. packets {c = min lock_after (suc c)} {v = x} ps w.1 (omega arith) k))
 
 -- where a packet is broken off: nothing but the phase and the collected bytes has changed since its command
 abbrev pub broken_off : View → List ℕ → View
@@ -196,10 +196,10 @@ broken_off_lem : {c : ℕ} {v : View} {u : Port} → At (Awake Command) c v → 
 unfolding need command_of
 broken_off_lem {v = v} {u = u} a sound seen img t y h =
     let pad : List ℕ = replicate (4 + get_or t 3 0 - length t) 0x00 in
-    let row : Row id-check 0xF5 (t ++ pad) = filled_row id-check t y (omega arith) in
+    let row : Row id_check 0xF5 (t ++ pad) = filled_row id_check t y (omega arith) in
     let long : length t < length (t ++ pad) = omega (arith, length-append t pad, length-replicate {A = ℕ} (4 + get_or t 3 0 - length t) 0x00) in
     let whole : take (length t) (t ++ pad) ≡ t = take-append_seam t pad in
-    let p = subst (λ (l : List ℕ). Partway u img id-check (t ++ pad) (length t) (run u img (0xF5 ∷ l))) whole (front (ready a sound seen) img row (inl refl) (length t) long) in
+    let p = subst (λ (l : List ℕ). Partway u img id_check (t ++ pad) (length t) (run u img (0xF5 ∷ l))) whole (front (ready a sound seen) img row (inl refl) (length t) long) in
     record {
       before = λ k l.
           subst (λ (xs : List ℕ). Open (run u img xs).unit → ⊥) (take-append-le k (0xF5 ∷ t) pad (omega arith))

@@ -12,7 +12,7 @@ use Rattle.unit.specs.declared.Unit.{Unit as Port}
 use Rattle.unit.specs.declared.Phase.TheVariants.{Awake}
 use Rattle.unit.specs.declared.Place.TheVariants.{Command}
 use Rattle.unit.specs.Phases.{Kind, command_of, need, Position, position_of}
-use Rattle.unit.specs.Phases.Kind.{page-read, page-program, unit-program, block-erase, erase-all, id-check}
+use Rattle.unit.specs.Phases.Kind.{page_read, page_program, unit_program, block_erase, all_erase, id_check}
 use Rattle.unit.specs.Phases.Position.{sleeping, commanding, within}
 use Rattle.unit.specs.Model.{is_open}
 use Rattle.unit.proofs.Positions.{phase_sleeping, phase_commanding}
@@ -38,7 +38,7 @@ use Rattle.demands.proofs.FirstBytes.{begins?}
 no_kind : ◌≡◌ {A = ℕ} 0 1 → ⊥
 no_kind e = omega arith
 
-opened : (u : Port) {q : Kind} → Taken u q → (q ≡ id-check → ⊥) → Open u
+opened : (u : Port) {q : Kind} → Taken u q → (q ≡ id_check → ⊥) → Open u
 opened u (inl e) n = absurd (n e)
 opened u (inr o) n = (open_is u).1 o
 
@@ -52,12 +52,12 @@ whole_row u (after_f5 {ds = ds} l) t = takes_f5 {ds = ds} l
 
 -- a packet in progress is an ID check, or the unit is open
 pub takes_inside : {u : Port} → Sound u → (q : Kind) {n : ℕ} → position_of u.phase ≡ within q n → Taken u q
-takes_inside s page-read e = inr (open_inside s e (λ z. no_kind (cc)))
-takes_inside s page-program e = inr (open_inside s e (λ z. no_kind (cc)))
-takes_inside s unit-program e = inr (open_inside s e (λ z. no_kind (cc)))
-takes_inside s block-erase e = inr (open_inside s e (λ z. no_kind (cc)))
-takes_inside s erase-all e = inr (open_inside s e (λ z. no_kind (cc)))
-takes_inside s id-check e = inl refl
+takes_inside s page_read e = inr (open_inside s e (λ z. no_kind (cc)))
+takes_inside s page_program e = inr (open_inside s e (λ z. no_kind (cc)))
+takes_inside s unit_program e = inr (open_inside s e (λ z. no_kind (cc)))
+takes_inside s block_erase e = inr (open_inside s e (λ z. no_kind (cc)))
+takes_inside s all_erase e = inr (open_inside s e (λ z. no_kind (cc)))
+takes_inside s id_check e = inl refl
 
 -- a byte more of a packet that was short does not make it too long
 fits : (q : Kind) (xs : List ℕ) (b : ℕ) → length xs < need q xs → length (xs ++ b ∷ []) ≤ need q (xs ++ b ∷ [])
@@ -81,9 +81,9 @@ module _ {u : Port} {img : List ℕ} {cs : List Call} (f : Fit u img) (between :
       ap (λ (m : ℕ). take m (drop k (taken es))) n
       ∙ (ap (take 1) (drop-cons (taken es) k 0 (omega (arith, taken_long es, at_under a))) ∙ ap (λ (b : ℕ). b ∷ []) (byte_taken a))
 
-  at_command_lem : v.phase ≡ Awake Command → ((rest : List ℕ) × Whole v (e.byte ∷ rest)) ⊎ Ignored v e.byte → Covered u es k e.byte
-  at_command_lem p (inl (rest, w)) = of_packet k (omega arith) p rest (subst⁻¹ (λ (l : List ℕ). Whole v (l ++ rest)) alone w)
-  at_command_lem p (inr n) = ignored p n
+  at_a_command : v.phase ≡ Awake Command → ((rest : List ℕ) × Whole v (e.byte ∷ rest)) ⊎ Ignored v e.byte → Covered u es k e.byte
+  at_a_command p (inl (rest, w)) = of_packet k (omega arith) p rest (subst⁻¹ (λ (l : List ℕ). Whole v (l ++ rest)) alone w)
+  at_a_command p (inr n) = ignored p n
 
   in_packet_lem : (q : Kind) (n : ℕ) → position_of v.phase ≡ within q n → Covered u es k e.byte
   in_packet_lem q n p =
@@ -96,7 +96,7 @@ module _ {u : Port} {img : List ℕ} {cs : List Call} (f : Fit u img) (between :
       filled_row q xs (bytes_append (take n v.collected) (e.byte ∷ []) (bytes_take n v.collected s.bytes) ((entry_is f c a).small, tt)) most in
       let count : suc k - w.from ≡ suc (suc n) = omega (arith, w.long) in
       let whole : Whole (unit_after u es w.from) (command_of q ∷ filled q xs) = whole_row (unit_after u es w.from) row (from_there w (takes_inside s q p)) in
-      of_packet w.from (omega (arith, w.long)) w.at_command_lem (replicate (need q xs - length xs) 0x00)
+      of_packet w.from (omega (arith, w.long)) w.at_a_command (replicate (need q xs - length xs) 0x00)
       (subst⁻¹ (λ (l : List ℕ). Whole (unit_after u es w.from) (l ++ replicate (need q xs - length xs) 0x00))
       (ap (λ (i : ℕ). take i (drop w.from (taken es))) count ∙ pending_next w a) whole)
     where
@@ -109,5 +109,5 @@ module _ {u : Port} {img : List ℕ} {cs : List Call} (f : Fit u img) (between :
     where
       go : (p : Position) → position_of v.phase ≡ p → Covered u es k e.byte
       go (sleeping n) q = asleep n (phase_sleeping v.phase q)
-      go commanding q = at_command_lem (phase_commanding v.phase q) (begins? v e.byte)
+      go commanding q = at_a_command (phase_commanding v.phase q) (begins? v e.byte)
       go (within k n) q = in_packet_lem k n q

@@ -14,7 +14,7 @@ use Rattle.unit.specs.Range.{in_range}
 use Rattle.protocol.specs.declared.Started.{Started}
 use Rattle.protocol.specs.Calls.{start_refusal, refusal, Left, refused, StartEnsures, ByteEnsures, RunEnsures}
 use Rattle.protocol.proofs.Reasons.{StartReason, Reason}
-use Rattle.protocol.proofs.Reasons.StartReason.{fine as start_Fine, image as start-image, protection}
+use Rattle.protocol.proofs.Reasons.StartReason.{fine as start_fine, image as start_image, protection}
 use Rattle.protocol.proofs.Reasons.Reason.{fine, image, room, range}
 use Rattle.protocol.proofs.Refusals.{start_reason, start_exactly, start_number, start_done, start_refused, reason, exactly, byte_number, run_number, byte_done, byte_refused, run_refused}
 use Rattle.demands.specs.Record.{InRange, Idle, Fresh}
@@ -23,7 +23,7 @@ use Rattle.packets.specs.Readings.{Bytes}
 use Rattle.unit.proofs.Ranged.{Sound}
 use Rattle.unit.proofs.Builders.{sound_fresh, sound_idle}
 use Rattle.demands.specs.Histories.{Call, brings, area_of, Answers, Fit}
-use Rattle.demands.specs.Histories.Call.{byte, run as a-run}
+use Rattle.demands.specs.Histories.Call.{byte, run as a_run}
 use Rattle.demands.specs.Refusals.{HandsBack, StartExact, Exact}
 use Rattle.demands.proofs.Records.{in_range_lem, fresh_is, idle_is}
 use Rattle.demands.proofs.Bridge.{given_bytes, fit_sound, sound_fit, called_sound, called_size, call_called}
@@ -32,26 +32,26 @@ use Rattle.demands.proofs.Bridge.{given_bytes, fit_sound, sound_fit, called_soun
 module _ (img : List ℕ) (inputs : Inputs) where
   -- each number's reason, in the demands' words
   start_none : {n : ℕ} → StartReason img inputs n → n ≡ 0 → (length img ≡ 20480) × (inputs.protection ≤ 15)
-  start_none (start_Fine s p) e = (s, p)
-  start_none (start-image s) e = absurd (omega arith)
+  start_none (start_fine s p) e = (s, p)
+  start_none (start_image s) e = absurd (omega arith)
   start_none (protection s p) e = absurd (omega arith)
 
   start_one : {n : ℕ} → StartReason img inputs n → n ≡ 1 → length img ≢ 20480
-  start_one (start_Fine s p) e = absurd (omega arith)
-  start_one (start-image s) e = s
+  start_one (start_fine s p) e = absurd (omega arith)
+  start_one (start_image s) e = s
   start_one (protection s p) e = absurd (omega arith)
 
   start_two : {n : ℕ} → StartReason img inputs n → n ≡ 2 → (length img ≡ 20480) × (15 < inputs.protection)
-  start_two (start_Fine s p) e = absurd (omega arith)
-  start_two (start-image s) e = absurd (omega arith)
+  start_two (start_fine s p) e = absurd (omega arith)
+  start_two (start_image s) e = absurd (omega arith)
   start_two (protection s p) e = (s, p)
 
   -- "A call refuses a wrong image size, a protection number out of range [..], and only then. A refusal hands back [..] (at start, the fixed idle unit)."
   pub start_exact : (r : Started) → StartEnsures img inputs r → StartExact img inputs r
   start_exact r q =
       record {
-        none = (λ e. start_none start (sym number ∙ e), λ w. by (start_Fine w.0 w.1));
-        image = (λ e. start_one start (sym number ∙ e), λ w. by (start-image w));
+        none = (λ e. start_none start (sym number ∙ e), λ w. by (start_fine w.0 w.1));
+        image = (λ e. start_one start (sym number ∙ e), λ w. by (start_image w));
         protection = (λ e. start_two start (sym number ∙ e), λ w. by (protection w.0 w.1));
         answer = answer start refl;
       }
@@ -70,9 +70,9 @@ module _ (img : List ℕ) (inputs : Inputs) where
 
       answer : {n : ℕ} → StartReason img inputs n → start_refusal img inputs ≡ n
           → ((r.refusal ≡ 0) × Fresh (Blank img) inputs.protection r.unit) ⊎ (((r.refusal ≡ 1) ⊎ (r.refusal ≡ 2)) × Idle r.unit)
-      answer (start_Fine s p) e =
+      answer (start_fine s p) e =
           inl (number ∙ e, subst⁻¹ (Fresh (Blank img) inputs.protection) (ap (λ (x : Started). x.unit) (q ∙ start_done img inputs e)) (fresh_is img inputs s))
-      answer (start-image s) e = inr (inl (number ∙ e), idling (λ z. omega arith))
+      answer (start_image s) e = inr (inl (number ∙ e), idling (λ z. omega arith))
       answer (protection s p) e = inr (inr (number ∙ e), idling (λ z. omega arith))
 
 -- a byte or a run
@@ -170,7 +170,7 @@ module _ (u : Port) (img area : List ℕ) where
 -- the same of either call
 pub call_exact : (u : Port) (img : List ℕ) (c : Call) (l : Left) → Answers u img c l → Exact u img (area_of c) l
 call_exact u img (byte b area) l q = byte_exact u img area b l q
-call_exact u img (a-run bs area) l q = run_exact u img area bs l q
+call_exact u img (a_run bs area) l q = run_exact u img area bs l q
 
 -- U7 at the call, of a byte and of a run: a call that is not refused answers a unit in range, and leaves an image of the right size
 pub call_stays : (u : Port) (img : List ℕ) (c : Call) (l : Left) → length u.collected ≡ 259 → Bytes u.collected → Bytes (brings c)
@@ -189,6 +189,6 @@ start_fits img inputs r q lent size = go (start_reason img inputs) refl
     idling n = sound_fit (subst⁻¹ Sound (ap (λ (x : Started). x.unit) (q ∙ start_refused img inputs n)) sound_idle) size
 
     go : {n : ℕ} → StartReason img inputs n → start_refusal img inputs ≡ n → Fit r.unit lent
-    go (start_Fine s p) e = sound_fit (subst⁻¹ Sound (ap (λ (x : Started). x.unit) (q ∙ start_done img inputs e)) (sound_fresh img inputs p)) size
-    go (start-image s) e = idling (λ z. omega arith)
+    go (start_fine s p) e = sound_fit (subst⁻¹ Sound (ap (λ (x : Started). x.unit) (q ∙ start_done img inputs e)) (sound_fresh img inputs p)) size
+    go (start_image s) e = idling (λ z. omega arith)
     go (protection s p) e = idling (λ z. omega arith)

@@ -8,7 +8,7 @@ use lib.ListN.{length, get_or, take}
 use Rattle.unit.specs.declared.Unit.{Unit as Port}
 use Rattle.unit.specs.declared.Registers.{Registers}
 use Rattle.unit.specs.Phases.{Kind, command_of, position_of}
-use Rattle.unit.specs.Phases.Kind.{id-check}
+use Rattle.unit.specs.Phases.Kind.{id_check}
 use Rattle.unit.specs.Phases.Position.{within}
 use Rattle.unit.specs.Model.{is_open}
 use Rattle.unit.proofs.Positions.{position_inside}
@@ -30,12 +30,12 @@ use Rattle.demands.specs.Table.{Between}
 use Rattle.demands.specs.Changes.Change.{none, last}
 use Rattle.demands.proofs.Traces.{at_under, image_next, image_onward}
 use Rattle.demands.proofs.Bridge.{stepped, image_is, sound_at, size_at, protection_at, entry_is}
-use Rattle.demands.proofs.Records.{open_is, in_range_lem as range-is, block_is, within_inside}
+use Rattle.demands.proofs.Records.{open_is, in_range_lem as range_is, block_is, within_inside}
 use Rattle.demands.proofs.Effects.{permitted_row, packet_effect, carried_permitted}
 use Rattle.demands.proofs.InHistory.{part_way, Completed, completed}
 
 -- a packet that writes is no ID check
-writes : {p : ℕ} {img xs new : List ℕ} {k : Kind} → Carried p img xs k new → k ≡ id-check → ⊥
+writes : {p : ℕ} {img xs new : List ℕ} {k : Kind} → Carried p img xs k new → k ≡ id_check → ⊥
 writes (page m) e = let z : ◌≡◌ {A = ℕ} 0 1 = cc in omega arith
 writes (bytes m) e = let z : ◌≡◌ {A = ℕ} 0 1 = cc in omega arith
 writes (block c m) e = let z : ◌≡◌ {A = ℕ} 0 1 = cc in omega arith
@@ -50,7 +50,7 @@ module _ {u : Port} {img : List ℕ} {cs : List Call} (f : Fit u img) (c : Calls
 
   -- every unit is in range: the first one, and the one after each byte
   pub always_in_range : (k : ℕ) → InRange (unit_after u c.trace k)
-  always_in_range k = (range-is (unit_after u es k)).1 (in_range_lem (sound_at f c k))
+  always_in_range k = (range_is (unit_after u es k)).1 (in_range_lem (sound_at f c k))
 
   -- "no stream changes a protected block"
   pub protected_kept : {i x : ℕ} → Protected u.settings.protection i → InBlock i x → (k : ℕ) → get_or (image_after img c.trace k) x 0 ≡ get_or img x 0
@@ -67,7 +67,7 @@ module _ {u : Port} {img : List ℕ} {cs : List Call} (f : Fit u img) (c : Calls
     kept (suc i) l =
         let r = permitted_row m in
         image_onward (stepped f c) j (suc i) (j + suc i) refl
-        ∙ (part_way f c j k under b.at_command_lem r.row (inr ((open_is (unit_after u es j)).0 b.opened)) r.whole i l).image
+        ∙ (part_way f c j k under b.at_a_command r.row (inr ((open_is (unit_after u es j)).0 b.opened)) r.whole i l).image
 
     pub full_effect : FullEffect u.settings.protection img c.trace j k
     full_effect =
@@ -93,7 +93,7 @@ module _ {u : Port} {img : List ℕ} {cs : List Call} (f : Fit u img) (c : Calls
       subst⁻¹ (Permitted p) w.bytes (subst (λ (z : ℕ). Permitted z (command_of q ∷ xs)) (protection_at f c k) (carried_permitted d.carried w.row)) in
       let b : Begins (unit_after u es w.from) =
       record {
-        at_command_lem = w.at_command_lem;
+        at_a_command = w.at_a_command;
         opened = (open_is (unit_after u es w.from)).1 (ap is_open (sym w.registers) ∙ open_inside s g (writes d.carried));
         ready = ap (λ (r : Registers). r.srd) (sym w.registers) ∙ d.ready;
       } in

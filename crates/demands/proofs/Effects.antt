@@ -18,16 +18,16 @@ use Rattle.unit.specs.declared.Unit.{Unit as Port}
 use Rattle.unit.specs.declared.Phase.TheVariants.{Awake}
 use Rattle.unit.specs.declared.Place.TheVariants.{Command}
 use Rattle.unit.specs.Phases.{Kind}
-use Rattle.unit.specs.Phases.Kind.{page-program, unit-program, block-erase, erase-all}
+use Rattle.unit.specs.Phases.Kind.{page_program, unit_program, block_erase, all_erase}
 use Rattle.unit.proofs.Ranged.{Sound, in_range_lem}
 use Rattle.protocol.specs.Step.{run}
 use Rattle.protocol.specs.Rows.{Ready, Row, May, Programs as RowPrograms}
 use Rattle.protocol.specs.Rows.Row.{after_41, after_49, after_20, after_a7}
-use Rattle.protocol.specs.Rows.Programs.{page as page-packet, bytes as bytes-packet}
-use Rattle.protocol.specs.Rows.Erases.{block as block-packet, all as all-packet}
+use Rattle.protocol.specs.Rows.Programs.{page as page_packet, bytes as bytes_packet}
+use Rattle.protocol.specs.Rows.Erases.{block as block_packet, all as all_packet}
 use Rattle.protocol.specs.Endings.{bank_end}
 use Rattle.protocol.proofs.Carried.{Carried}
-use Rattle.protocol.proofs.Carried.Carried.{page as page-done, bytes as bytes-done, block as block-done, all as all_done}
+use Rattle.protocol.proofs.Carried.Carried.{page as page_done, bytes as bytes_done, block as block_done, all as all_done}
 use Rattle.protocol.proofs.RowsMay.{clear_bit}
 use Rattle.protocol.proofs.RowsProgram.{program_carried_out}
 use Rattle.protocol.proofs.RowsErase.{erase_block_lem, erase_every_block}
@@ -110,22 +110,22 @@ pub record OfRow (packet : List ℕ) : Type 0 where
   pub row : Row kind command rest
 
 pub permitted_row : {p : ℕ} {packet : List ℕ} → Permitted p packet → OfRow packet
-permitted_row (program (page {ds = ds} h) m) = record { kind = page-program; command = 0x41; rest = _; whole = refl; row = after_41 {ds = ds} h }
-permitted_row (program (bytes {ds = ds} h) m) = record { kind = unit-program; command = 0x49; rest = _; whole = refl; row = after_49 {ds = ds} h }
-permitted_row (block a m) = record { kind = block-erase; command = 0x20; rest = _; whole = refl; row = after_20 }
-permitted_row all = record { kind = erase-all; command = 0xA7; rest = _; whole = refl; row = after_a7 }
+permitted_row (program (page {ds = ds} h) m) = record { kind = page_program; command = 0x41; rest = _; whole = refl; row = after_41 {ds = ds} h }
+permitted_row (program (bytes {ds = ds} h) m) = record { kind = unit_program; command = 0x49; rest = _; whole = refl; row = after_49 {ds = ds} h }
+permitted_row (block a m) = record { kind = block_erase; command = 0x20; rest = _; whole = refl; row = after_20 }
+permitted_row all = record { kind = all_erase; command = 0xA7; rest = _; whole = refl; row = after_a7 }
 
 -- a program packet is one of the rows'
 pub programs_row : {packet ds : List ℕ} {a reach : ℕ} → Programs packet a ds reach → RowPrograms packet a ds reach
-programs_row (page h) = page-packet h
-programs_row (bytes h) = bytes-packet h
+programs_row (page h) = page_packet h
+programs_row (bytes h) = bytes_packet h
 
 -- at a command, and so where a packet begins, the rows apply
 pub command_ready : {u : Port} → u.phase ≡ Awake Command → Sound u → Ready u
-command_ready e s = record { at_command_lem = e; ranged = in_range_lem s; room = s.room }
+command_ready e s = record { at_a_command = e; ranged = in_range_lem s; room = s.room }
 
 pub begins_ready : {u : Port} → Begins u → Sound u → Ready u
-begins_ready b s = command_ready b.at_command_lem s
+begins_ready b s = command_ready b.at_a_command s
 
 -- and the packet is carried out
 pub packet_effect : {u : Port} → Begins u → Sound u → (img : List ℕ) → length img ≡ 20480 → {packet : List ℕ} → Permitted u.settings.protection packet
@@ -134,20 +134,20 @@ packet_effect {u} b s img size (program q m) =
     let w = program_carried_out (begins_ready b s) ((open_is u).0 b.opened) img (programs_row q) size b.ready (may_is m) in
     (program q m, programmed_is w.2.image)
 packet_effect {u} b s img size (block {mid} {high} {i} {k} d m) =
-    let w = erase_block_lem (begins_ready b s) ((open_is u).0 b.opened) img block-packet b.ready size ((address_is (256 * mid + 65536 * high) i k).0 d) m in
+    let w = erase_block_lem (begins_ready b s) ((open_is u).0 b.opened) img block_packet b.ready size ((address_is (256 * mid + 65536 * high) i k).0 d) m in
     (block d m, one_erased i w.image)
 packet_effect {u} b s img size all =
-    let w = erase_every_block (begins_ready b s) ((open_is u).0 b.opened) img all-packet b.ready size in
+    let w = erase_every_block (begins_ready b s) ((open_is u).0 b.opened) img all_packet b.ready size in
     (all, free_erased u.settings.protection w.image)
 
 -- what the specification carries out is a permitted packet
 pub carried_permitted : {p : ℕ} {img xs new : List ℕ} {k : Kind} {c : ℕ} → Carried p img xs k new → Row k c xs → Permitted p (c ∷ xs)
 unfolding bank_end
-carried_permitted {p} (page-done m) (after_41 {mid} {high} {ds} h) =
+carried_permitted {p} (page_done m) (after_41 {mid} {high} {ds} h) =
     program (page {ds = ds} h) (may_back 65536 p (page_address mid high) (256 * mid + 65536 * high) ds (omega arith) m.bank m.free)
-carried_permitted {p} (bytes-done m) (after_49 {low} {mid} {high} {ds} h) =
+carried_permitted {p} (bytes_done m) (after_49 {low} {mid} {high} {ds} h) =
     program (bytes {ds = ds} h) (may_back 65535 p (byte_address low mid high) (low + 256 * mid + 65536 * high) ds (omega arith) m.bank m.free)
-carried_permitted {p} (block-done c m) (after_20 {mid} {high} {confirm}) =
+carried_permitted {p} (block_done c m) (after_20 {mid} {high} {confirm}) =
     let q : page_address mid high ≡ 256 * mid + 65536 * high = omega arith in
     let w = free_found p (find part (page_address mid high)) m in
     subst⁻¹ (λ (x : ℕ). Permitted p (0x20 ∷ mid ∷ high ∷ x ∷ [])) c

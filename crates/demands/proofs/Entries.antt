@@ -18,7 +18,7 @@ use Rattle.protocol.proofs.Steps.{run_one, run_append}
 use Rattle.protocol.proofs.Runs.{Stopped, stopped, run_answers}
 use Rattle.protocol.proofs.Refusals.{exactly, all_right, byte_done, byte_refused, run_refused}
 use Rattle.demands.specs.Histories.{Call, brings, area_of, Answers, Entry, entry, entries_from, Fronts, unit_after, image_after}
-use Rattle.demands.specs.Histories.Call.{byte, run as a-run}
+use Rattle.demands.specs.Histories.Call.{byte, run as a_run}
 use Rattle.demands.specs.Histories.Fronts.{of_byte, of_run}
 use Rattle.demands.proofs.Traces.{Stepped}
 use Rattle.demands.proofs.Traces.Stepped.{done, next}
@@ -157,9 +157,9 @@ module _ (m : ℕ) {u : Port} (s : Sound u) (img : List ℕ) (size : length img 
           (ap (λ (x : Left). entries_from m (b ∷ []) fronts 0 x.answer.taken) e
           ∙ (ap₂ (λ (n : ℕ) (x : Left). entry m 0 b n x ∷ []) z (f ∙ (a ∙ byte_done u img area b (fine area r)))
           ∙ ap (λ (x : Entry). x ∷ []) (between m 0 b (quiet u img) (step u img b) 1 area)))
-  call_is {c = a-run bs area} {l = l} {fronts = fronts} a (of_run f) = go (dec_lt (length area) 256)
+  call_is {c = a_run bs area} {l = l} {fronts = fronts} a (of_run f) = go (dec_lt (length area) 256)
     where
-      go : Dec (length area < 256) → Called m u img (a-run bs area) l (entries_from m bs fronts 0 l.answer.taken)
+      go : Dec (length area < 256) → Called m u img (a_run bs area) l (entries_from m bs fronts 0 l.answer.taken)
       go (yes h) =
           let e : l ≡ refused 3 u img area = a ∙ run_small area h bs in
           small h e (ap (λ (x : Left). entries_from m bs fronts 0 x.answer.taken) e)

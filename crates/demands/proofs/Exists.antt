@@ -9,14 +9,14 @@ use Rattle.unit.specs.declared.Unit.{Unit as Port}
 use Rattle.unit.specs.declared.Inputs.{Inputs}
 use Rattle.protocol.specs.Calls.{Left, refused, start_call, byte_call, run_call}
 use Rattle.demands.specs.Histories.{Call, brings, Answers, Entry, entries_from, Fronts, Goes, Calls, History}
-use Rattle.demands.specs.Histories.Call.{byte, run as a-run}
+use Rattle.demands.specs.Histories.Call.{byte, run as a_run}
 use Rattle.demands.specs.Histories.Fronts.{of_byte, of_run}
 use Rattle.demands.specs.Histories.Goes.{ends, goes}
 
 -- what each call of a list leaves
 abbrev pub left_of : Port → List ℕ → Call → Left
 left_of u img (byte b area) = byte_call u img area b
-left_of u img (a-run bs area) = run_call u img bs area
+left_of u img (a_run bs area) = run_call u img bs area
 
 abbrev pub lefts_of : Port → List ℕ → List Call → List Left
 lefts_of u img [] = []
@@ -27,21 +27,21 @@ lefts_of u img (c ∷ cs) =
 
 pub answers_left : (u : Port) (img : List ℕ) (c : Call) (l : Left) → Answers u img c l → l ≡ left_of u img c
 answers_left u img (byte b area) l a = a
-answers_left u img (a-run bs area) l a = a
+answers_left u img (a_run bs area) l a = a
 
 left_answers : (u : Port) (img : List ℕ) (c : Call) → Answers u img c (left_of u img c)
 left_answers u img (byte b area) = refl
-left_answers u img (a-run bs area) = refl
+left_answers u img (a_run bs area) = refl
 
 -- and on each front of its bytes
 abbrev pub fronts_of : Port → List ℕ → Call → ℕ → Left
 fronts_of u img (byte b area) zero = refused 0 u img area
 fronts_of u img (byte b area) (suc j) = byte_call u img area b
-fronts_of u img (a-run bs area) j = run_call u img (take j bs) area
+fronts_of u img (a_run bs area) j = run_call u img (take j bs) area
 
 pub fronts_are : (u : Port) (img : List ℕ) (c : Call) → Fronts u img c (left_of u img c) (fronts_of u img c)
 fronts_are u img (byte b area) = of_byte refl refl
-fronts_are u img (a-run bs area) = of_run (λ j q. refl)
+fronts_are u img (a_run bs area) = of_run (λ j q. refl)
 
 -- the trace of calls from the m-th on
 abbrev pub trace_of : ℕ → Port → List ℕ → List Call → List Entry

@@ -7,7 +7,7 @@ use lib.ListN.{length, get_or, replicate, length-append, length-replicate}
 use Rattle.slices.specs.Lists.{Bytes}
 use Rattle.slices.proofs.Lists.{bytes_append, bytes_zeros}
 use Rattle.unit.specs.Phases.{Kind, command_of, need}
-use Rattle.unit.specs.Phases.Kind.{page-read, page-program, unit-program, block-erase, erase-all, id-check}
+use Rattle.unit.specs.Phases.Kind.{page_read, page_program, unit_program, block_erase, all_erase, id_check}
 use Rattle.protocol.specs.Rows.{Row}
 use Rattle.protocol.proofs.RowsFront.{every_packet}
 
@@ -20,12 +20,12 @@ padded (x ∷ t) n (suc j) = padded t n j
 
 need_padded : (k : Kind) (t : List ℕ) (n : ℕ) → need k (t ++ replicate n 0x00) ≡ need k t
 unfolding need
-need_padded page-read t n = refl
-need_padded page-program t n = refl
-need_padded unit-program t n = ap (λ (m : ℕ). 4 + m) (padded t n 3)
-need_padded block-erase t n = refl
-need_padded erase-all t n = refl
-need_padded id-check t n = ap (λ (m : ℕ). 4 + m) (padded t n 3)
+need_padded page_read t n = refl
+need_padded page_program t n = refl
+need_padded unit_program t n = ap (λ (m : ℕ). 4 + m) (padded t n 3)
+need_padded block_erase t n = refl
+need_padded all_erase t n = refl
+need_padded id_check t n = ap (λ (m : ℕ). 4 + m) (padded t n 3)
 
 abbrev pub filled : Kind → List ℕ → List ℕ
 filled k t = t ++ replicate (need k t - length t) 0x00

@@ -59,6 +59,7 @@ module _ (u : Port) where
   begins_free (there (there (there (there (there (there (here e))))))) = begin 0xB3 [] (takes_b0_to_b4 {n = 3} (omega arith)) e
   begins_free (there (there (there (there (there (there (there (here e)))))))) = begin 0xB4 [] (takes_b0_to_b4 {n = 4} (omega arith)) e
   begins_free (there (there (there (there (there (there (there (there (here e))))))))) = begin 0x00 [] takes_00 e
+  begins_free {b = b} (there (there (there (there (there (there (there (there (there m))))))))) = elim m [ ]
 
   begins_guarded : Open u → {b : ℕ} → Among b guarded → (rest : List ℕ) × Whole u (b ∷ rest)
   begins_guarded o (here e) = begin 0xFF (0 ∷ 0 ∷ []) (takes_ff o) e
@@ -67,6 +68,7 @@ module _ (u : Port) where
   begins_guarded o (there (there (there (here e)))) = begin 0x20 (0 ∷ 0 ∷ 0 ∷ []) (takes_20 o) e
   begins_guarded o (there (there (there (there (here e))))) = begin 0xA7 (0 ∷ []) (takes_a7 o) e
   begins_guarded o (there (there (there (there (there (here e)))))) = begin 0x50 [] (takes_50 o) e
+  begins_guarded o {b = b} (there (there (there (there (there (there m)))))) = elim m [ ]
 
   -- and no other does
   data Starts (b : ℕ) : Type 0 where
@@ -97,6 +99,7 @@ module _ (u : Port) where
   none_among : {b : ℕ} (cs : List ℕ) → Each (λ (c : ℕ). b ≢ c) cs → Among b cs → ⊥
   none_among (c ∷ cs) f (here e) = f.0 e
   none_among (c ∷ cs) f (there m) = none_among cs f.1 m
+  none_among {b = b} [] f m = elim m [ ]
 
   -- a byte begins a packet, or it is ignored
   pub begins? : (b : ℕ) → ((rest : List ℕ) × Whole u (b ∷ rest)) ⊎ Ignored u b
@@ -123,6 +126,7 @@ module _ (u : Port) where
   guard (there (there (there (here e)))) = subst⁻¹ Guarded e drops_20
   guard (there (there (there (there (here e))))) = subst⁻¹ Guarded e drops_a7
   guard (there (there (there (there (there (here e)))))) = subst⁻¹ Guarded e drops_50
+  guard {b = b} (there (there (there (there (there (there m)))))) = elim m [ ]
 
   closed : (Open u → ⊥) → is_open u.registers ≡ false
   closed n = go (is_open u.registers) refl

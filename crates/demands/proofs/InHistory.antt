@@ -26,7 +26,7 @@ use Rattle.demands.proofs.Pending.{Pending, pending, pending_next}
 pub record Completed (u : Port) (es : List Entry) (k : ℕ) (q : Kind) (xs : List ℕ) : Type 0 where
   pub from : ℕ
   pub under : from ≤ k
-  pub at_command_lem : (unit_after u es from).phase ≡ Awake Command
+  pub at_a_command : (unit_after u es from).phase ≡ Awake Command
   pub registers : (unit_after u es k).registers ≡ (unit_after u es from).registers
   pub bytes : bytes_to es from k ≡ command_of q ∷ xs
   pub row : Row q (command_of q) xs
@@ -44,12 +44,12 @@ module _ {u : Port} {img : List ℕ} {cs : List Call} (f : Fit u img) (c : Calls
       → {q : Kind} {b : ℕ} {xs : List ℕ} → Row q b xs → Taken (unit_after u c.trace j) q → bytes_to c.trace j k ≡ b ∷ xs → (i : ℕ) → suc i < suc k - j
       → Partway (unit_after u c.trace j) (image_after img c.trace j) q xs i
       (run (unit_after u c.trace j) (image_after img c.trace j) (take (suc i) (drop j (taken c.trace))))
-  part_way j k under at_command_lem {q} {b} {xs} row open-or-check e i l =
+  part_way j k under at_a_command {q} {b} {xs} row open_or_check e i l =
       let n : length (bytes_to es j k) ≡ suc (length xs) = ap length e in
       let front_of : b ∷ take i xs ≡ take (suc i) (drop j (taken es)) =
       ap (take (suc i)) (sym e) ∙ take-take (suc i) (suc k - j) (drop j (taken es)) (omega arith) in
       subst (λ (l : List ℕ). Partway (unit_after u es j) (image_after img es j) q xs i (run (unit_after u es j) (image_after img es j) l)) front_of
-      (front (command_ready at_command_lem (sound_at f c j)) (image_after img es j) row open-or-check i (omega (arith, bytes_long es j k under)))
+      (front (command_ready at_a_command (sound_at f c j)) (image_after img es j) row open_or_check i (omega (arith, bytes_long es j k under)))
 
   -- a byte that completes a packet, where the first unit was not inside one
   pub completed : ((q : Kind) (n : ℕ) → position_of u.phase ≡ within q n → ⊥) → {k : ℕ} {e : Entry} → At c.trace k e → (q : Kind) (n : ℕ) → position_of (unit_after u c.trace k).phase ≡ within q n
@@ -67,7 +67,7 @@ module _ {u : Port} {img : List ℕ} {cs : List Call} (f : Fit u img) (c : Calls
       record {
         from = w.from;
         under = omega (arith, w.long);
-        at_command_lem = w.at_command_lem;
+        at_a_command = w.at_a_command;
         registers = w.registers;
         bytes = ap (λ (i : ℕ). take i (drop w.from (taken es))) count ∙ pending_next w a;
         row = every_packet q xs (bytes_append (take n v.collected) (e.byte ∷ []) (bytes_take n v.collected s.bytes) ((entry_is f c a).small, tt)) long;

@@ -44,10 +44,10 @@ module _ {u : Port} {img : List ℕ} {cs : List Call} (f : Fit u img) (c : Calls
   pub unit_program_keeps : (j k : ℕ) → j ≤ k → k < length c.trace → (unit_after u c.trace j).phase ≡ Awake Command → Open (unit_after u c.trace j)
       → (low mid high : ℕ) (ds : List ℕ) → length ds < 256 → bytes_to c.trace j k ≡ 0x49 ∷ low ∷ mid ∷ high ∷ length ds ∷ ds
       → get_or (image_after img c.trace (suc k)) 20479 0 ≡ get_or (image_after img c.trace j) 20479 0
-  unit_program_keeps j k after under at_command_lem opened low mid high ds few e =
+  unit_program_keeps j k after under at_a_command opened low mid high ds few e =
       let v : Port = unit_after u es j in
       ap (λ (l : List ℕ). get_or l 20479 0) (image_onward (stepped f c) j (suc k - j) (suc k) (omega arith) ∙ ap (λ (l : List ℕ). (run v (image_after img es j) l).image) e)
-      ∙ (sym (last_byte _) ∙ (run_keeps (command_ready at_command_lem (sound_at f c j)) ((open_is v).0 opened) (image_after img es j) (size_at f c j) low mid high ds few ∙ last_byte (image_after img es j)))
+      ∙ (sym (last_byte _) ∙ (run_keeps (command_ready at_a_command (sound_at f c j)) ((open_is v).0 opened) (image_after img es j) (size_at f c j) low mid high ds few ∙ last_byte (image_after img es j)))
 
   -- a page program to page 0FF00 still reaches it: it leaves old AND the last of its 256 data there
   pub page_program_reaches : (j k : ℕ) → j ≤ k → k < length c.trace → Begins (unit_after u c.trace j) → Unprotected u.settings.protection 3

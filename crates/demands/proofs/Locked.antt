@@ -14,7 +14,7 @@ use Rattle.unit.specs.declared.Settings.{Settings}
 use Rattle.unit.specs.declared.State.{State}
 use Rattle.unit.specs.declared.Phase.{Phase}
 use Rattle.unit.specs.Phases.{Kind, Position, position_of}
-use Rattle.unit.specs.Phases.Kind.{page-read, page-program, unit-program, block-erase, erase-all, id-check}
+use Rattle.unit.specs.Phases.Kind.{page_read, page_program, unit_program, block_erase, all_erase, id_check}
 use Rattle.unit.specs.Phases.Position.{sleeping, commanding, within}
 use Rattle.unit.specs.Model.{no_bytes, begun, inputs, whole, state, at_command, with_srd1, with_mismatches, phased, longer, ended, is_open}
 use Rattle.unit.proofs.Ranged.{Sound, closed_filled}
@@ -85,22 +85,22 @@ module _ (t t' : Settings) (n : t.blank ≡ false) (n' : t'.blank ≡ false) (im
     effects unknown = unsettled _ got []
 
     -- the end of an ID packet
-    check_blind : (xs : List ℕ) → Blind img (finished id-check u img xs) (finished id-check u' img' xs)
+    check_blind : (xs : List ℕ) → Blind img (finished id_check u img xs) (finished id_check u' img' xs)
     unfolding finished ended
     check_blind xs =
         subst₂ (λ (x x' : Registers). Blind img (says (whole (at_command x) t no_bytes) img []) (says (whole (at_command x') t' no_bytes) img' []))
         (sym (check_same k t.blank (is_right img xs) n)) (sym (check_same k t'.blank (is_right img' xs) n')) (unsettled (at_command (with_srd1 r 0x04)) no_bytes [])
 
-    blind_at : (p : Position) → ((q : Kind) (m : ℕ) → p ≡ within q m → q ≡ id-check) → Blind img (step_at p u img b) (step_at p u' img' b)
+    blind_at : (p : Position) → ((q : Kind) (m : ℕ) → p ≡ within q m → q ≡ id_check) → Blind img (step_at p u img b) (step_at p u' img' b)
     unfolding step_at asleep commanded dropped in_packet completes body phased longer
     blind_at (sleeping m) only =
         blind_cond (eqb b 0x00) (unsettled _ got []) (blind_cond (wakes m b) (unsettled _ got _) (unsettled _ got []))
     blind_at commanding only = blind_cond (dropped (meaning b) u) (unsettled _ got []) (effects (meaning b))
     blind_at (within q m) only =
         subst⁻¹ (λ (q : Kind). Blind img (in_packet q m u img b) (in_packet q m u' img' b)) (only q m refl)
-        (blind_cond (completes id-check m u b) (check_blind (body m u b)) (unsettled _ _ []))
+        (blind_cond (completes id_check m u b) (check_blind (body m u b)) (unsettled _ _ []))
 
-    blind_step : ((q : Kind) (m : ℕ) → position_of f ≡ within q m → q ≡ id-check) → Blind img (step u img b) (step u' img' b)
+    blind_step : ((q : Kind) (m : ℕ) → position_of f ≡ within q m → q ≡ id_check) → Blind img (step u img b) (step u' img' b)
     unfolding step
     blind_step only = blind_at (position_of f) only
 
@@ -131,19 +131,19 @@ module _ {u : Port} (s : Sound u) (k : Locked u.registers) where
   pub locked_filled : u.settings.blank ≡ false
   locked_filled = closed_filled u.settings u.registers s.settings locked_closed
 
-  locked_inside : (q : Kind) (m : ℕ) → position_of u.phase ≡ within q m → q ≡ id-check
+  locked_inside : (q : Kind) (m : ℕ) → position_of u.phase ≡ within q m → q ≡ id_check
   locked_inside q m e = go q refl
     where
-      not_other : (q ≡ id-check → ⊥) → q ≡ id-check
+      not_other : (q ≡ id_check → ⊥) → q ≡ id_check
       not_other f = absurd (false≢true (sym locked_closed ∙ open_inside s e f))
 
-      go : (k : Kind) → q ≡ k → q ≡ id-check
-      go page-read h = not_other (λ z. no_number (cc))
-      go page-program h = not_other (λ z. no_number (cc))
-      go unit-program h = not_other (λ z. no_number (cc))
-      go block-erase h = not_other (λ z. no_number (cc))
-      go erase-all h = not_other (λ z. no_number (cc))
-      go id-check h = h
+      go : (k : Kind) → q ≡ k → q ≡ id_check
+      go page_read h = not_other (λ z. no_number (cc))
+      go page_program h = not_other (λ z. no_number (cc))
+      go unit_program h = not_other (λ z. no_number (cc))
+      go block_erase h = not_other (λ z. no_number (cc))
+      go all_erase h = not_other (λ z. no_number (cc))
+      go id_check h = h
 
 module _ {i : List ℕ} where
   locked_byte : {v : View} → LockedView v → (b : ℕ) → Comes i v LockedView (b ∷ [])

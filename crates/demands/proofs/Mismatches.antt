@@ -20,7 +20,7 @@ use Rattle.unit.specs.declared.Inputs.{Inputs}
 use Rattle.unit.specs.declared.Phase.TheVariants.{Awake}
 use Rattle.unit.specs.declared.Place.TheVariants.{Command}
 use Rattle.unit.specs.Phases.{Kind, command_of, need, Position, position_of}
-use Rattle.unit.specs.Phases.Kind.{page-read, page-program, unit-program, block-erase, erase-all, id-check}
+use Rattle.unit.specs.Phases.Kind.{page_read, page_program, unit_program, block_erase, all_erase, id_check}
 use Rattle.unit.specs.Phases.Position.{sleeping, commanding, within}
 use Rattle.unit.specs.Model.{phased, longer, ended, standing}
 use Rattle.unit.proofs.Ranged.{Sound}
@@ -31,7 +31,7 @@ use Rattle.protocol.specs.Commands.Command.{begin, clear, status, version, time,
 use Rattle.protocol.specs.Endings.{programs, erases, finished}
 use Rattle.protocol.specs.Step.{wakes, asleep, body, completes, in_packet, step_at, step, run}
 use Rattle.protocol.specs.Rows.{Row}
-use Rattle.protocol.specs.Rows.Row.{after_f5 as row-F5}
+use Rattle.protocol.specs.Rows.Row.{after_f5 as row_f5}
 use Rattle.demands.specs.Locking.{Locked, IdPacket, Counting}
 use Rattle.demands.specs.Flash.{ids, Blank}
 use Rattle.demands.specs.Histories.{Call, Entry, Calls, History, Fit, unit_after, image_after, taken, At, bytes_to}
@@ -51,7 +51,7 @@ use Rattle.demands.proofs.Locked.{view_of, locked_bytes}
 
 -- a byte leaves the count as it was, or completes an ID packet
 abbrev Keeps : Port → ℕ → Outcome → Type 0
-Keeps u b o = (o.unit.registers.mismatches ≡ u.registers.mismatches) ⊎ ((n : ℕ) × (position_of u.phase ≡ within id-check n) × (suc n ≡ need id-check (body n u b)))
+Keeps u b o = (o.unit.registers.mismatches ≡ u.registers.mismatches) ⊎ ((n : ℕ) × (position_of u.phase ≡ within id_check n) × (suc n ≡ need id_check (body n u b)))
 
 module _ (u : Port) (img : List ℕ) (b : ℕ) where
   abbrev Same : Outcome → Type 0
@@ -68,14 +68,14 @@ module _ (u : Port) (img : List ℕ) (b : ℕ) where
       (λ t. cond_elim Same (standing u.registers) _ _ (λ t. refl) (λ t. cond_elim Same (not (eqb confirm 0xD0)) _ _ (λ t. refl) (λ t. refl)))
 
   -- the end of a packet that is no ID check
-  ends_same : (k : Kind) (xs : List ℕ) → (k ≡ id-check) ⊎ Same (finished k u img xs)
+  ends_same : (k : Kind) (xs : List ℕ) → (k ≡ id_check) ⊎ Same (finished k u img xs)
   unfolding finished ended
-  ends_same page-read xs = inr refl
-  ends_same page-program xs = inr (programs_same _)
-  ends_same unit-program xs = inr (programs_same _)
-  ends_same block-erase xs = inr (erases_same _ _)
-  ends_same erase-all xs = inr (erases_same _ _)
-  ends_same id-check xs = inl refl
+  ends_same page_read xs = inr refl
+  ends_same page_program xs = inr (programs_same _)
+  ends_same unit_program xs = inr (programs_same _)
+  ends_same block_erase xs = inr (erases_same _ _)
+  ends_same all_erase xs = inr (erases_same _ _)
+  ends_same id_check xs = inl refl
 
   effect_same : (c : Meaning) → Same (effect c u img b)
   unfolding effect phased ended
@@ -94,7 +94,7 @@ module _ (u : Port) (img : List ℕ) (b : ℕ) where
   keeps_at (within k n) e =
       cond_elim (Keeps u b) (completes k n u b) _ _ (λ t. go (ends_same k (body n u b)) (eqb-true (suc n) (need k (body n u b)) t)) (λ t. inl refl)
     where
-      go : (k ≡ id-check) ⊎ Same (finished k u img (body n u b)) → suc n ≡ need k (body n u b) → Keeps u b (finished k u img (body n u b))
+      go : (k ≡ id_check) ⊎ Same (finished k u img (body n u b)) → suc n ≡ need k (body n u b) → Keeps u b (finished k u img (body n u b))
       go (inr s) l = inl s
       go (inl q) l = inr (n, e ∙ ap (λ (k : Kind). within k n) q, l ∙ ap (λ (k : Kind). need k (body n u b)) q)
 
@@ -134,7 +134,7 @@ module _ {img : List ℕ} {inputs : Inputs} {cs : List Call} (h : History img in
       (subst⁻¹ (λ (x : Port). Locked x.registers) (unit_onward (stepped (start_fit h) h.calls) j (k - j) k (omega arith)) w.0, image_onward (stepped (start_fit h) h.calls) j (k - j) k (omega arith) ∙ w.1)
 
   -- what a complete ID packet makes of SRD1 and of the count, before the first opening or after it
-  module _ (n : Blank img → ⊥) (j k : ℕ) (after : j ≤ k) (under : k < length h.calls.trace) (at_command_lem : (unit_after h.started.unit h.calls.trace j).phase ≡ Awake Command) where
+  module _ (n : Blank img → ⊥) (j k : ℕ) (after : j ≤ k) (under : k < length h.calls.trace) (at_a_command : (unit_after h.started.unit h.calls.trace j).phase ≡ Awake Command) where
     filled : (unit_after u₀ es j).settings.blank ≡ false
     filled =
         ap (λ (t : Settings). t.blank) (settings_at (start_fit h) h.calls j)
@@ -154,14 +154,14 @@ module _ {img : List ℕ} {inputs : Inputs} {cs : List Call} (h : History img in
         go q (whole {ds = ds} small) =
             let i : ℕ = k - j - 1 in
             let count : j + suc i ≡ k = omega (arith, bytes_long es j k under, ap length q) in
-            let w = part_way (start_fit h) h.calls j k under at_command_lem (row-F5 {ds = ds} small) (inl refl) q i (omega arith) in
+            let w = part_way (start_fit h) h.calls j k under at_a_command (row_f5 {ds = ds} small) (inl refl) q i (omega arith) in
             (ap (λ (x : Port). x.registers) (unit_onward (stepped (start_fit h) h.calls) j (suc i) k count) ∙ w.registers, image_onward (stepped (start_fit h) h.calls) j (suc i) k count ∙ w.image)
 
     -- the table's row of an ID packet; a unit that did not start blank is judged
     judged : {packet : List ℕ} → bytes_to es j k ≡ packet → IdPacket packet → Checked now packet u.registers (unit_after u₀ es (suc k)).registers
     judged q (whole {low} {mid} {high} {ds} small) =
         let (e, a) = at_position es k under in
-        let last = subst (λ (p : List ℕ). (w : Whole u p) → Ends w now e) q (λ w. (demand_2_table (start_fit h) h.calls).ends j k e after a at_command_lem w) in
+        let last = subst (λ (p : List ℕ). (w : Whole u p) → Ends w now e) q (λ w. (demand_2_table (start_fit h) h.calls).ends j k e after a at_a_command w) in
         let (said, r, kept) = (last (takes_f5 {low = low} {mid = mid} {high = high} {ds = ds} small)).effect in
         subst⁻¹ (λ (v : Port). Checked now (packet_bytes (check low mid high ds)) u.registers v.registers) (unit_next u₀ a) (go r)
       where
@@ -184,12 +184,12 @@ module _ {img : List ℕ} {inputs : Inputs} {cs : List Call} (h : History img in
       now : (step (unit_after u₀ es k) (image_after img es k) e.byte).unit ≡ unit_after u₀ es (suc k)
       now = ap (λ (o : Outcome). o.unit) (entry_is (start_fit h) h.calls a).leads ∙ sym (unit_next u₀ a)
 
-      packet : {c : ℕ} {xs : List ℕ} → Row id-check c xs → IdPacket (c ∷ xs)
-      packet (row-F5 {ds = ds} small) = whole {ds = ds} small
+      packet : {c : ℕ} {xs : List ℕ} → Row id_check c xs → IdPacket (c ∷ xs)
+      packet (row_f5 {ds = ds} small) = whole {ds = ds} small
 
       go : Keeps (unit_after u₀ es k) e.byte (step (unit_after u₀ es k) (image_after img es k) e.byte) → Counting u₀ img es k
       go (inl q) = none (ap (λ (u : Port). u.registers.mismatches) (sym now) ∙ q)
       go (inr (m, f, l)) =
-          let w = completed (start_fit h) h.calls (λ q n z. not_asleep (ap (λ (u : Port). u.phase) (start_fresh h) ∙ fresh_phase img inputs) q n z) a id-check m f l in
+          let w = completed (start_fit h) h.calls (λ q n z. not_asleep (ap (λ (u : Port). u.phase) (start_fresh h) ∙ fresh_phase img inputs) q n z) a id_check m f l in
           let p : IdPacket (bytes_to es w.from k) = subst⁻¹ IdPacket w.bytes (packet w.row) in
-          last w.from w.under w.at_command_lem p (each_check n w.from k w.under (at_under a) w.at_command_lem p)
+          last w.from w.under w.at_a_command p (each_check n w.from k w.under (at_under a) w.at_a_command p)

@@ -18,7 +18,7 @@ use Rattle.demands.specs.Table.Whole.{takes_ff, takes_41_or_49, takes_20, takes_
 use Rattle.demands.specs.Table.Page.{inside, outside}
 use Rattle.demands.specs.Table.Verified.{equal, differs}
 use Rattle.demands.specs.Table.Programming.{standing, forbidden, carried_out}
-use Rattle.demands.specs.Table.Erasing.{cancelled, standing as erase-stands, unconfirmed, confirmed}
+use Rattle.demands.specs.Table.Erasing.{cancelled, standing as erase_stands, unconfirmed, confirmed}
 use Rattle.demands.specs.Table.OneBlock.{refused, erased}
 use Rattle.demands.specs.Table.AllBlocks.{erased as all_erased}
 use Rattle.demands.specs.Table.IdChecked.{stays_open, judged}
@@ -61,19 +61,19 @@ module _ (u : Port) (img : List ℕ) (size : length img ≡ 20480) where
   one_erasing : {confirm : ℕ} (C : Registers → List ℕ → Type 0) → ((r s : Registers) (l m : List ℕ) → C r l → C s m → (r ≡ s) × (l ≡ m))
       → {r s : Registers} {l m : List ℕ} → Erasing u img confirm C r l → Erasing u img confirm C s m → (r ≡ s) × (l ≡ m)
   one_erasing C one (cancelled a) (cancelled b) = (refl, refl)
-  one_erasing C one (cancelled a) (erase-stands b c) = absurd (b a)
+  one_erasing C one (cancelled a) (erase_stands b c) = absurd (b a)
   one_erasing C one (cancelled a) (unconfirmed b c d) = absurd (b a)
   one_erasing C one (cancelled a) (confirmed b c d) = absurd (omega (arith, a, b))
-  one_erasing C one (erase-stands a b) (cancelled c) = absurd (a c)
-  one_erasing C one (erase-stands a b) (erase-stands c d) = (refl, refl)
-  one_erasing C one (erase-stands a b) (unconfirmed c d e) = absurd (b d)
-  one_erasing C one (erase-stands a b) (confirmed c d e) = absurd (b d)
+  one_erasing C one (erase_stands a b) (cancelled c) = absurd (a c)
+  one_erasing C one (erase_stands a b) (erase_stands c d) = (refl, refl)
+  one_erasing C one (erase_stands a b) (unconfirmed c d e) = absurd (b d)
+  one_erasing C one (erase_stands a b) (confirmed c d e) = absurd (b d)
   one_erasing C one (unconfirmed a b c) (cancelled d) = absurd (a d)
-  one_erasing C one (unconfirmed a b c) (erase-stands d e) = absurd (e b)
+  one_erasing C one (unconfirmed a b c) (erase_stands d e) = absurd (e b)
   one_erasing C one (unconfirmed a b c) (unconfirmed d e f) = (refl, refl)
   one_erasing C one (unconfirmed a b c) (confirmed d e f) = absurd (c d)
   one_erasing C one (confirmed a b c) (cancelled d) = absurd (omega (arith, a, d))
-  one_erasing C one (confirmed a b c) (erase-stands d e) = absurd (e b)
+  one_erasing C one (confirmed a b c) (erase_stands d e) = absurd (e b)
   one_erasing C one (confirmed a b c) (unconfirmed d e f) = absurd (f a)
   one_erasing C one {r} {s} {l} {m} (confirmed a b c) (confirmed d e f) = one r s l m c f
 

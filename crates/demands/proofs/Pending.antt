@@ -104,7 +104,7 @@ module _ (u : Port) (img : List ℕ) (b : ℕ) where
 pub record Pending (u : Port) (es : List Entry) (k : ℕ) (q : Kind) (n : ℕ) : Type 0 where
   pub from : ℕ
   pub long : from + suc n ≡ k
-  pub at_command_lem : (unit_after u es from).phase ≡ Awake AtCommand
+  pub at_a_command : (unit_after u es from).phase ≡ Awake AtCommand
   pub registers : (unit_after u es k).registers ≡ (unit_after u es from).registers
   pub bytes : take (suc n) (drop from (taken es)) ≡ command_of q ∷ take n (unit_after u es k).collected
 
@@ -127,7 +127,7 @@ module _ {u : Port} {img : List ℕ} {es : List Entry} (t : Stepped u img es) (s
       record {
         from = k;
         long = omega arith;
-        at_command_lem = c;
+        at_a_command = c;
         registers = ap (λ (x : Port). x.registers) v ∙ phased_registers (unit_after u es k) (Awake (inside q 0));
         bytes = ap (take 1) (drop-cons (taken es) k 0 h) ∙ ap (λ (x : ℕ). x ∷ []) (byte_taken a ∙ b);
       }
@@ -142,7 +142,7 @@ module _ {u : Port} {img : List ℕ} {es : List Entry} (t : Stepped u img es) (s
       record {
         from = p.from;
         long = omega (arith, p.long);
-        at_command_lem = p.at_command_lem;
+        at_a_command = p.at_a_command;
         registers = ap (λ (y : Port). y.registers) v ∙ (longer_registers x q n e.byte ∙ p.registers);
         bytes =
             pending_next p a

@@ -22,18 +22,18 @@ use Rattle.unit.specs.declared.Phase.{Phase}
 use Rattle.unit.specs.declared.Phase.TheVariants.{Asleep, Awake}
 use Rattle.unit.specs.declared.Place.TheVariants.{Command, PageRead, PageProgram, UnitProgram, BlockErase, EraseAll, IdCheck}
 use Rattle.unit.specs.Phases.{Kind, command_of, need, inside, position_of}
-use Rattle.unit.specs.Phases.Kind.{page-read, page-program, unit-program, block-erase, erase-all, id-check}
+use Rattle.unit.specs.Phases.Kind.{page_read, page_program, unit_program, block_erase, all_erase, id_check}
 use Rattle.unit.specs.Phases.Position.{within}
 use Rattle.unit.proofs.Positions.{phase_inside}
 use Rattle.demands.specs.Table.{Inside as InPacket}
-use Rattle.demands.specs.Table.Inside.{in_ff as in-FF', in_41 as in-41', in_49 as in-49', in_20 as in-20', in_a7 as in-A7', in_f5 as in-F5'}
+use Rattle.demands.specs.Table.Inside.{in_ff as in_ff', in_41 as in_41', in_49 as in_49', in_20 as in_20', in_a7 as in_a7', in_f5 as in_f5'}
 use Rattle.unit.specs.Model.{is_open, fresh, idle}
 use Rattle.unit.specs.Range.{packet_fits, position_fits, srd_fits, srd1_fits, registers_fit, settings_fit, in_range}
 use Rattle.unit.proofs.Lengths.{few_sized}
 use Rattle.unit.proofs.Ranged.{registers_srd, registers_srd1, registers_rate, registers_mismatches, registers_together, settings_protection, BlankRule, settings_blank, settings_together}
 use Rattle.unit.proofs.Builders.{fresh_phase, fresh_srd, fresh_srd1, fresh_rate, fresh_mismatches, fresh_blank, fresh_protection, fresh_collected, idle_phase, idle_srd, idle_srd1, idle_rate, idle_mismatches, idle_blank, idle_protection, idle_collected}
 use Rattle.demands.specs.Record.{Open, PhaseFits, Srd, Srd1, InRange, Idle, Fresh}
-use Rattle.demands.specs.Record.PhaseFits.{asleep, at_command_lem, in_ff, in_41, in_49, in_20, in_a7, in_f5}
+use Rattle.demands.specs.Record.PhaseFits.{asleep, at_a_command, in_ff, in_41, in_49, in_20, in_a7, in_f5}
 use Rattle.demands.specs.Record.Srd.{ready, program_error, erase_error, both_errors}
 use Rattle.demands.specs.Record.Srd1.{not_checked, mismatch, match}
 use Rattle.demands.specs.Flash.{InBlock, Address, ids, Blank}
@@ -56,7 +56,7 @@ module _ (u : Port) where
   fits : {f : Phase} → PhaseFits u f → position_fits (position_of f) (is_open u.registers) u.collected ≡ true
   unfolding position_fits packet_fits command_of need
   fits (asleep {n} h) = le-leb n 16 h
-  fits at_command_lem = refl
+  fits at_a_command = refl
   fits (in_ff {n} o h) = both_and _ _ ((open_is u).0 o) (lt-ltb n 2 h)
   fits (in_41 {n} o h) = both_and _ _ ((open_is u).0 o) (lt-ltb n 258 h)
   fits (in_49 {n} o h) = both_and _ _ ((open_is u).0 o) (few n u.collected h)
@@ -67,7 +67,7 @@ module _ (u : Port) where
   fits_back : (f : Phase) → position_fits (position_of f) (is_open u.registers) u.collected ≡ true → PhaseFits u f
   unfolding position_fits packet_fits command_of need
   fits_back (Asleep n) e = asleep (leb-true n 16 e)
-  fits_back (Awake Command) e = at_command_lem
+  fits_back (Awake Command) e = at_a_command
   fits_back (Awake (PageRead n)) e = let w = and_both (is_open u.registers) (ltb n 2) e in in_ff ((open_is u).1 w.0) (ltb-true n 2 w.1)
   fits_back (Awake (PageProgram n)) e = let w = and_both (is_open u.registers) (ltb n 258) e in in_41 ((open_is u).1 w.0) (ltb-true n 258 w.1)
   fits_back (Awake (UnitProgram n)) e = let w = and_both (is_open u.registers) _ e in in_49 ((open_is u).1 w.0) (few_back n u.collected w.1)
@@ -263,21 +263,21 @@ place_address {k = k} (block_3 g h) =
 -- inside a packet
 pub inside_is : (q : Kind) (n : ℕ) → InPacket (command_of q) n (Awake (inside q n))
 unfolding command_of
-inside_is page-read n = in-FF'
-inside_is page-program n = in-41'
-inside_is unit-program n = in-49'
-inside_is block-erase n = in-20'
-inside_is erase-all n = in-A7'
-inside_is id-check n = in-F5'
+inside_is page_read n = in_ff'
+inside_is page_program n = in_41'
+inside_is unit_program n = in_49'
+inside_is block_erase n = in_20'
+inside_is all_erase n = in_a7'
+inside_is id_check n = in_f5'
 
 pub within_inside : {f : Phase} {q : Kind} {n : ℕ} → position_of f ≡ within q n → InPacket (command_of q) n f
 within_inside {f} {q} {n} e = subst⁻¹ (InPacket (command_of q) n) (phase_inside f e) (inside_is q n)
 
 pub inside_within : {f : Phase} {b n : ℕ} → InPacket b n f → (q : Kind) × (b ≡ command_of q) × (position_of f ≡ within q n)
 unfolding command_of
-inside_within in-FF' = (page-read, refl, refl)
-inside_within in-41' = (page-program, refl, refl)
-inside_within in-49' = (unit-program, refl, refl)
-inside_within in-20' = (block-erase, refl, refl)
-inside_within in-A7' = (erase-all, refl, refl)
-inside_within in-F5' = (id-check, refl, refl)
+inside_within in_ff' = (page_read, refl, refl)
+inside_within in_41' = (page_program, refl, refl)
+inside_within in_49' = (unit_program, refl, refl)
+inside_within in_20' = (block_erase, refl, refl)
+inside_within in_a7' = (all_erase, refl, refl)
+inside_within in_f5' = (id_check, refl, refl)

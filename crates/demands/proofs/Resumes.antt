@@ -15,7 +15,7 @@ use Rattle.unit.specs.declared.Phase.{Phase}
 use Rattle.unit.specs.declared.Phase.TheVariants.{Awake}
 use Rattle.unit.specs.declared.Place.TheVariants.{Command}
 use Rattle.unit.specs.Phases.{Kind, command_of, need, position_of}
-use Rattle.unit.specs.Phases.Kind.{page-read, page-program, unit-program, block-erase, erase-all, id-check}
+use Rattle.unit.specs.Phases.Kind.{page_read, page_program, unit_program, block_erase, all_erase, id_check}
 use Rattle.unit.specs.Phases.Position.{within}
 use Rattle.unit.specs.Model.{whole, state, phased, is_open}
 use Rattle.unit.specs.Range.{position_fits}
@@ -31,7 +31,7 @@ use Rattle.protocol.proofs.RowsFront.{front}
 use Rattle.protocol.proofs.Refusals.{all_right}
 use Rattle.protocol.proofs.Runs.{Stopped, run_answers}
 use Rattle.demands.specs.Histories.{Call, brings, Entry, entries_from, Goes, Calls, Fit, unit_after, image_after}
-use Rattle.demands.specs.Histories.Call.{run as a-run}
+use Rattle.demands.specs.Histories.Call.{run as a_run}
 use Rattle.demands.specs.Histories.Goes.{ends, goes}
 use Rattle.demands.specs.Table.{Inside as InPacket, Renumbered, Resumes}
 use Rattle.demands.specs.Table.Renumbered.{none, next}
@@ -69,12 +69,12 @@ image_then img (e ∷ es) fs = image_then e.image es fs
 
 command_small : (q : Kind) → command_of q < 256
 unfolding command_of
-command_small page-read = omega arith
-command_small page-program = omega arith
-command_small unit-program = omega arith
-command_small block-erase = omega arith
-command_small erase-all = omega arith
-command_small id-check = omega arith
+command_small page_read = omega arith
+command_small page_program = omega arith
+command_small unit_program = omega arith
+command_small block_erase = omega arith
+command_small all_erase = omega arith
+command_small id_check = omega arith
 
 -- units with the same fields
 same_unit : (x y : Port) → x.phase ≡ y.phase → x.registers ≡ y.registers → x.settings ≡ y.settings → x.collected ≡ y.collected → x ≡ y
@@ -150,7 +150,7 @@ module _ {u : Port} {img : List ℕ} (f : Fit u img) (q : Kind) (n : ℕ) (place
       silent (suc i) h = (partway i (omega arith)).reply
 
   abbrev call : Call
-  call = a-run bytes area
+  call = a_run bytes area
 
   abbrev answer : Left
   answer = run_call from img bytes area

@@ -13,7 +13,7 @@ use Rattle.unit.specs.declared.Phase.{Phase}
 use Rattle.unit.specs.declared.Phase.TheVariants.{Asleep, Awake}
 use Rattle.unit.specs.declared.Place.TheVariants.{Command}
 use Rattle.unit.specs.Phases.{Kind, command_of}
-use Rattle.unit.specs.Phases.Kind.{page-read, page-program, unit-program, block-erase, erase-all, id-check}
+use Rattle.unit.specs.Phases.Kind.{page_read, page_program, unit_program, block_erase, all_erase, id_check}
 use Rattle.protocol.specs.Outcome.{Outcome, says}
 use Rattle.protocol.specs.Step.{step, run}
 use Rattle.protocol.specs.Rows.{Ready, Row, Taken, Partway, Turns, Dropped}
@@ -40,14 +40,14 @@ pub data Shape (u : Port) (packet : List ℕ) : Type 0 where
   several : (q : Kind) (b : ℕ) (xs : List ℕ) → packet ≡ b ∷ xs → Row q b xs → Taken u q → Shape u packet
 
 pub shape : {u : Port} {packet : List ℕ} → Whole u packet → Shape u packet
-shape {u} (takes_ff o) = several page-read 0xFF _ refl after_ff (inr ((open_is u).0 o))
-shape {u} (takes_41_or_49 o (page {ds = ds} l)) = several page-program 0x41 _ refl (after_41 {ds = ds} l) (inr ((open_is u).0 o))
-shape {u} (takes_41_or_49 o (bytes {ds = ds} l)) = several unit-program 0x49 _ refl (after_49 {ds = ds} l) (inr ((open_is u).0 o))
-shape {u} (takes_20 o) = several block-erase 0x20 _ refl after_20 (inr ((open_is u).0 o))
-shape {u} (takes_a7 o) = several erase-all 0xA7 _ refl after_a7 (inr ((open_is u).0 o))
+shape {u} (takes_ff o) = several page_read 0xFF _ refl after_ff (inr ((open_is u).0 o))
+shape {u} (takes_41_or_49 o (page {ds = ds} l)) = several page_program 0x41 _ refl (after_41 {ds = ds} l) (inr ((open_is u).0 o))
+shape {u} (takes_41_or_49 o (bytes {ds = ds} l)) = several unit_program 0x49 _ refl (after_49 {ds = ds} l) (inr ((open_is u).0 o))
+shape {u} (takes_20 o) = several block_erase 0x20 _ refl after_20 (inr ((open_is u).0 o))
+shape {u} (takes_a7 o) = several all_erase 0xA7 _ refl after_a7 (inr ((open_is u).0 o))
 shape (takes_50 o) = one refl
 shape takes_70 = one refl
-shape (takes_f5 {ds = ds} l) = several id-check 0xF5 _ refl (after_f5 {ds = ds} l) (inl refl)
+shape (takes_f5 {ds = ds} l) = several id_check 0xF5 _ refl (after_f5 {ds = ds} l) (inl refl)
 shape takes_fb = one refl
 shape (takes_b0_to_b4 l) = one refl
 shape takes_00 = one refl
@@ -110,9 +110,9 @@ module _ {u : Port} {img : List ℕ} {cs : List Call} (f : Fit u img) (c : Calls
         let n : suc k - j ≡ suc (k - j) = omega arith in
         ap (λ (m : ℕ). run v now (take m (drop j (taken es)))) n ∙ run_to j (k - j) k e (omega arith) a
 
-    module _ (at_command_lem : (unit_after u c.trace j).phase ≡ Awake Command) where
+    module _ (at_a_command : (unit_after u c.trace j).phase ≡ Awake Command) where
       ready : Ready v
-      ready = command_ready at_command_lem (sound_at f c j)
+      ready = command_ready at_a_command (sound_at f c j)
 
       -- a byte before a packet's last
       told_waits : (b x : ℕ) (xs rest : List ℕ) → bytes_to c.trace j k ≡ b ∷ xs → Whole (unit_after u c.trace j) (b ∷ (xs ++ x ∷ rest))
@@ -146,7 +146,7 @@ module _ {u : Port} {img : List ℕ} {cs : List Call} (f : Fit u img) (c : Calls
               earlier zero z = ap (λ (m : ℕ). (run v now (take m (drop j (taken es)))).reply) z
               earlier (suc i) z =
                   ap (λ (m : ℕ). (run v now (take m (drop j (taken es)))).reply) z
-                  ∙ (part_way f c j k (at_under a) at_command_lem r t h i (omega arith)).reply
+                  ∙ (part_way f c j k (at_under a) at_a_command r t h i (omega arith)).reply
 
       -- its last byte
       told_ends : (w : Whole (unit_after u c.trace j) (bytes_to c.trace j k)) → Ends w (image_after img c.trace j) e
@@ -168,9 +168,9 @@ module _ {u : Port} {img : List ℕ} {cs : List Call} (f : Fit u img) (c : Calls
 
     told_ignored : (unit_after u c.trace k).phase ≡ Awake Command → Ignored (unit_after u c.trace k) e.byte
         → Nothing (unit_after u c.trace k) (image_after img c.trace k) e
-    told_ignored at_command_lem none =
+    told_ignored at_a_command none =
         let d : Dropped x shown (says e.unit e.image e.reply) =
-        subst (Dropped x shown) leads (ignored_drops x (command_ready at_command_lem (sound_at f c k)) shown e.byte none) in
+        subst (Dropped x shown) leads (ignored_drops x (command_ready at_a_command (sound_at f c k)) shown e.byte none) in
         (d.reply, d.unit, d.image)
 
     module _ (n : ℕ) (sleeps : (unit_after u c.trace k).phase ≡ Asleep n) where

@@ -21,8 +21,8 @@ use Rattle.unit.specs.declared.Place.TheVariants.{Command}
 use Rattle.protocol.specs.Outcome.{Outcome}
 use Rattle.protocol.specs.Step.{step, run}
 use Rattle.protocol.specs.Rows.{Ready, May, MayNot, Scope, Erases as RowErases, Verified as RowVerified, Ends as RowEnds, Kept, right_packet}
-use Rattle.protocol.specs.Rows.Verified.{equal as row-equal, differs as row-differs}
-use Rattle.protocol.specs.Rows.Erases.{block as block-packet, all as all-packet}
+use Rattle.protocol.specs.Rows.Verified.{equal as row_equal, differs as row_differs}
+use Rattle.protocol.specs.Rows.Erases.{block as block_packet, all as all_packet}
 use Rattle.protocol.proofs.Steps.{run_one}
 use Rattle.protocol.proofs.RowsShort.{row_50, row_70, row_fb, row_b0_to_b4, row_00}
 use Rattle.protocol.proofs.RowsRead.{read_part, read_outside}
@@ -40,7 +40,7 @@ use Rattle.demands.specs.Table.Whole.{takes_ff, takes_41_or_49, takes_20, takes_
 use Rattle.demands.specs.Table.Page.{inside, outside}
 use Rattle.demands.specs.Table.Verified.{equal, differs}
 use Rattle.demands.specs.Table.Programming.{standing, forbidden, carried_out}
-use Rattle.demands.specs.Table.Erasing.{cancelled, standing as erase-stands, unconfirmed, confirmed}
+use Rattle.demands.specs.Table.Erasing.{cancelled, standing as erase_stands, unconfirmed, confirmed}
 use Rattle.demands.specs.Table.OneBlock.{refused, erased}
 use Rattle.demands.specs.Table.AllBlocks.{erased as all_erased}
 use Rattle.demands.specs.Table.IdChecked.{stays_open, judged}
@@ -68,8 +68,8 @@ not_both {most} {p} {a} {ds} m n = go (may_not_permitted most p a ds n)
 
 -- SRD once a program was carried out
 verified_is : {reach p a s : ℕ} {ds new : List ℕ} → MayProgram reach p a ds → RowVerified a ds new s → Verified a ds new s
-verified_is {a = a} {ds = ds} {new = new} m (row-equal f) = equal (λ j i k h d. sym (byte_at_lem part new (a + j) i k ((address_is (a + j) i k).0 d)) ∙ f j h)
-verified_is {a = a} {ds = ds} {new = new} m (row-differs j h f) =
+verified_is {a = a} {ds = ds} {new = new} m (row_equal f) = equal (λ j i k h d. sym (byte_at_lem part new (a + j) i k ((address_is (a + j) i k).0 d)) ∙ f j h)
+verified_is {a = a} {ds = ds} {new = new} m (row_differs j h f) =
     let (i, k, d, q) = m.free j h in
     differs j i k h d (λ e. f (byte_at_lem part new (a + j) i k ((address_is (a + j) i k).0 d) ∙ e))
 
@@ -136,7 +136,7 @@ module _ {u : Port} (ready : Ready u) (img : List ℕ) (size : length img ≡ 20
           (λ new k. subst⁻¹ (Effect w img [] u.registers) k (f u.registers img (cancelled c)))
       go (no c) (no h) d =
           row_ended w img (erase_standing ready ((open_is u).0 o) img q h)
-          (λ new k. subst⁻¹ (Effect w img [] u.registers) k (f u.registers img (erase-stands c h)))
+          (λ new k. subst⁻¹ (Effect w img [] u.registers) k (f u.registers img (erase_stands c h)))
       go (no c) (yes h) (no d) =
           row_ended w img (erase_unconfirmed ready ((open_is u).0 o) img q h c d)
           (λ new k. subst⁻¹ (Effect w img [] (srd_becomes 0xB0 u.registers)) k (f _ img (unconfirmed c h d)))
@@ -144,7 +144,7 @@ module _ {u : Port} (ready : Ready u) (img : List ℕ) (size : length img ≡ 20
 
   block_row : (mid high confirm : ℕ) (o : Open u) → Ended u (takes_20 {mid = mid} {high = high} {confirm = confirm} o) img (run u img (0x20 ∷ mid ∷ high ∷ confirm ∷ []))
   block_row mid high confirm o =
-      erase_row (block-packet {mid = mid} {high = high} {confirm = confirm}) o (takes_20 o) (OneBlock u img a) (λ r new e. (refl, e))
+      erase_row (block_packet {mid = mid} {high = high} {confirm = confirm}) o (takes_20 o) (OneBlock u img a) (λ r new e. (refl, e))
       (λ d h. subst⁻¹ (λ (c : ℕ). Ended u (takes_20 {mid = mid} {high = high} {confirm = c} o) img (run u img (0x20 ∷ mid ∷ high ∷ c ∷ []))) d (go h (find part a) refl))
     where
       a : ℕ
@@ -164,22 +164,22 @@ module _ {u : Port} (ready : Ready u) (img : List ℕ) (size : length img ≡ 20
 
       inside_block : u.registers.srd ≡ 0x80 → (i k : ℕ) → find part a ≡ Inside i k → Dec (p / 2 ^ i % 2 ≡ 0) → Ended u w img (run u img (0x20 ∷ mid ∷ high ∷ 0xD0 ∷ []))
       inside_block h i k e (yes z) =
-          row_ended w img (erase_block_lem ready ((open_is u).0 o) img block-packet h size e z)
+          row_ended w img (erase_block_lem ready ((open_is u).0 o) img block_packet h size e z)
           (λ new q. (refl, confirmed refl h (erased ((address_is a i k).1 e) z (one_erased i q))))
       inside_block h i k e (no z) =
           sets_sr5 h
           (λ j n d f. let x = (address_is a j n).0 d in let y : j ≡ i = cc in z (subst (λ (i : ℕ). p / 2 ^ i % 2 ≡ 0) y f))
-          (erase_protected ready ((open_is u).0 o) img block-packet h e (omega (arith, z)))
+          (erase_protected ready ((open_is u).0 o) img block_packet h e (omega (arith, z)))
 
       go : u.registers.srd ≡ 0x80 → (f : Found) → find part a ≡ f → Ended u w img (run u img (0x20 ∷ mid ∷ high ∷ 0xD0 ∷ []))
       go h (Inside i k) e = inside_block h i k e (ℕ_discrete (p / 2 ^ i % 2) 0)
-      go h Outside e = sets_sr5 h (λ i k d f. (outside_is a).0 e i k d) (erase_outside ready ((open_is u).0 o) img block-packet h e)
+      go h Outside e = sets_sr5 h (λ i k d f. (outside_is a).0 e i k d) (erase_outside ready ((open_is u).0 o) img block_packet h e)
 
   all_row : (confirm : ℕ) (o : Open u) → Ended u (takes_a7 {confirm = confirm} o) img (run u img (0xA7 ∷ confirm ∷ []))
   all_row confirm o =
-      erase_row (all-packet {confirm = confirm}) o (takes_a7 o) (AllBlocks u img) (λ r new e. (refl, e))
+      erase_row (all_packet {confirm = confirm}) o (takes_a7 o) (AllBlocks u img) (λ r new e. (refl, e))
       (λ d h. subst⁻¹ (λ (c : ℕ). Ended u (takes_a7 {confirm = c} o) img (run u img (0xA7 ∷ c ∷ []))) d
-      (row_ended (takes_a7 o) img (erase_every_block ready ((open_is u).0 o) img all-packet h size)
+      (row_ended (takes_a7 o) img (erase_every_block ready ((open_is u).0 o) img all_packet h size)
       (λ new q. (refl, confirmed refl h (all_erased (free_erased u.settings.protection q))))))
 
   -- an ID check

@@ -54,6 +54,7 @@ image_next img (later {e} a) = image_next e.image a
 pub entry_steps : {u : Port} {img : List ℕ} {es : List Entry} {k : ℕ} {e : Entry} → Stepped u img es → At es k e → Step (unit_after u es k) (image_after img es k) e
 entry_steps (next s t) here = s
 entry_steps (next s t) (later a) = entry_steps t a
+entry_steps {k = k} {e = e} (done {u = u} {img = img}) a = elim a [ ]
 
 -- its bytes are bytes
 pub taken_bytes : {u : Port} {img : List ℕ} {es : List Entry} → Stepped u img es → Bytes (taken es)

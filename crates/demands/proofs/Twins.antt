@@ -69,6 +69,7 @@ shown_at (same {f = f} s r) zero e here shut = (f, here, s)
 shown_at (same s r) (suc k) e (later a) shut =
     let (f, b, t) = shown_at r k e a (λ j h. shut (suc j) (omega arith)) in
     (f, later b, t)
+shown_at (ends {u = u}) k e a shut = elim a [ ]
 
 -- one byte
 module _ {u u' : Port} {img img' : List ℕ} (t : Twin u img u' img') (b : ℕ) (small : b < 256) (closed : Open u → ⊥) where

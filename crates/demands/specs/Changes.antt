@@ -10,7 +10,7 @@ use Rattle.demands.specs.Histories.{Entry, unit_after, image_after, bytes_to}
 
 -- where a packet that may write begins: at a command, the unit open, and neither SR4 nor SR5 standing
 pub record Begins (u : Port) : Type 0 where
-  pub at_command_lem : u.phase ≡ Awake Command
+  pub at_a_command : u.phase ≡ Awake Command
   pub opened : Open u
   pub ready : u.registers.srd ≡ 0x80
 

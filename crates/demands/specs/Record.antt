@@ -18,7 +18,7 @@ lock_after = 3
 -- The total of 49 and F5 is 4 plus the fourth collected byte; where fewer than four have come, they are fewer whatever that byte is
 pub data PhaseFits (u : Port) : Phase → Type 0 where
   asleep : {n : ℕ} → n ≤ 16 → PhaseFits u (Asleep n)
-  at_command_lem : PhaseFits u (Awake Command)
+  at_a_command : PhaseFits u (Awake Command)
   in_ff : {n : ℕ} → Open u → n < 2 → PhaseFits u (Awake (PageRead n))
   in_41 : {n : ℕ} → Open u → n < 258 → PhaseFits u (Awake (PageProgram n))
   in_49 : {n : ℕ} → Open u → n < 4 + get_or u.collected 3 0 → PhaseFits u (Awake (UnitProgram n))

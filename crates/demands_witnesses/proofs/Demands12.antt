@@ -29,7 +29,7 @@ use Rattle.demands.specs.Histories.{Call, brings, Entry, History, unit_after, im
 use Rattle.demands.specs.Histories.Call.{byte, run}
 use Rattle.demands.specs.Changes.{Begins, Permitted, FullEffect}
 use Rattle.demands.specs.Changes.Programs.{bytes}
-use Rattle.demands.specs.Changes.Permitted.{program as may-program}
+use Rattle.demands.specs.Changes.Permitted.{program as may_program}
 use Rattle.demands.proofs.Bridge.{entries_of, start_fresh, start_protection, start_fit, lefts_are, trace_is}
 use Rattle.demands.proofs.Exists.{history_exists}
 use Rattle.demands.proofs.Demand2.{protected_kept, full_effect}
@@ -87,7 +87,7 @@ pub record Shows (u : Port) (es : List Entry) : Type 0 where
 computed : Shows (fresh image (inputs 0)) (entries_of 0 (fresh image (inputs 0)) image calls)
 unfolding area calls image sized holds find place_of guarded free byte_at stored_id is_blank programmed permitted burnt program begun fresh phased longer ended is_open standing command_of need packet_fits position_fits srd_fits srd1_fits registers_fit blank_fits settings_fit in_range commands meaning needs_open effect dropped commanded bank_end programmed_by programs right_id is_right judged counted after_check finished wakes asleep body completes in_packet step_at step refusal byte_call run_call
 computed =
-    record { long = refl; begins = record { at_command_lem = refl; opened = refl; ready = refl }; packet = refl; old = refl; new = refl }
+    record { long = refl; begins = record { at_a_command = refl; opened = refl; ready = refl }; packet = refl; old = refl; new = refl }
 
 pub shows : (h : History image (inputs 0) calls) → Shows h.started.unit h.calls.trace
 shows h = subst⁻¹ (λ (u : Port). Shows u h.calls.trace) (start_fresh h) (subst⁻¹ (Shows (fresh image (inputs 0))) (trace_is h) computed)
@@ -95,7 +95,7 @@ shows h = subst⁻¹ (λ (u : Port). Shows u h.calls.trace) (start_fresh h) (sub
 -- that packet is permitted, so it takes its full effect at its last byte
 may : Permitted 0 (0x49 ∷ 0x00 ∷ 0x20 ∷ 0x00 ∷ 0x01 ∷ 0x0F ∷ [])
 may =
-    may-program (bytes {low = 0x00} {mid = 0x20} {high = 0x00} {ds = 0x0F ∷ []} (omega arith))
+    may_program (bytes {low = 0x00} {mid = 0x20} {high = 0x00} {ds = 0x0F ∷ []} (omega arith))
     (record { some = omega arith; bank = omega arith; free = λ j h. (0, 0x2000 + j - 0x2000, in_0 {a = 0x2000 + j} (omega arith) (omega arith), refl) })
 
 pub carried_out : (h : History image (inputs 0) calls) → FullEffect 0 image h.calls.trace 29 34

@@ -35,13 +35,13 @@ in_region i f m z r a j k g h p q e =
 
 -- an address of neither region is in no block
 pub in_no_region : (a : ℕ) → (0x2000 ≤ a → a < 0x3000 → ⊥) → (0xC000 ≤ a → a < 0x10000 → ⊥) → Outside ≡ find part a
-in_no_region a not_low not-high = go (find part a) refl
+in_no_region a not_low not_high = go (find part a) refl
   where
     in_none : (i k : ℕ) → Lies part i k a → ⊥
     in_none zero k l = not_low (omega (arith, l.from)) (omega (arith, l.under))
     in_none (suc zero) k l = not_low (omega (arith, l.from)) (omega (arith, l.under))
-    in_none (suc (suc zero)) k l = not-high (omega (arith, l.from)) (omega (arith, l.under))
-    in_none (suc (suc (suc zero))) k l = not-high (omega (arith, l.from)) (omega (arith, l.under))
+    in_none (suc (suc zero)) k l = not_high (omega (arith, l.from)) (omega (arith, l.under))
+    in_none (suc (suc (suc zero))) k l = not_high (omega (arith, l.from)) (omega (arith, l.under))
     in_none (suc (suc (suc (suc i)))) k l = absurd (omega (arith, l.number))
 
     go : (w : Found) → find part a ≡ w → Outside ≡ find part a

@@ -1,4 +1,6 @@
 // The flash of document 01 over an image that the caller lends: the block of an address, a page, programs, erases, the ID bytes and blankness.
+#![tactic(auto)]
+
 ghost use Rattle.std.specs.Prelude.{◌≡◌, ◌+◌, ◌≤◌, ◌<◌, length};
 ghost use Rattle.slices.specs.Lists.{same};
 ghost use Rattle.flash.specs.Blocks.{part, find, guarded, free, block_from, block_size};
@@ -6,7 +8,7 @@ ghost use Rattle.flash.specs.Image.{burn, free_from, permitted, erased, wiped, w
 ghost use Rattle.flash.specs.Clauses.{BlockOfEnsures, PageAddressEnsures, PageEnsures, IdEnsures, BlankEnsures, ProgramEnsures, EraseEnsures, EraseAllEnsures};
 
 // What an address names: the number of its block and its place in the image, or nothing of the flash.
-#[derive(Drop)]
+#[derive(Clone, Copy)]
 pub enum Found {
     Inside(usize, usize),
     Outside,

@@ -1,4 +1,6 @@
 // The lines of the bench as text in ASCII, each at the front of a buffer that the caller lends.
+#![tactic(auto)]
+
 ghost use Rattle.std.specs.Prelude.{◌≡◌, [], ◌∷◌, ◌++◌, ◌+◌, ◌*◌, ◌≤◌, ◌<◌, length, take};
 ghost use Rattle.lines.specs.Ascii.{ascii};
 ghost use Rattle.lines.specs.Text.{digit as digit_of, decimal_of, decimal, spaced, reply_line, end_line, refused_line, leaves, laid, wrote};

@@ -1,4 +1,6 @@
 // What the live program decides, on slices: the protection that it was given, what a byte leads to, when the image is to be saved, and what is answered.
+#![tactic(auto)]
+
 ghost use Rattle.std.specs.Prelude.{◌≡◌};
 ghost use Rattle.live.specs.Argument.{capped, given};
 ghost use Rattle.live.specs.Turns.{turned, turn_call};
@@ -7,7 +9,7 @@ use protocol::Answer;
 use unit::Unit;
 
 // What the argument says.
-#[derive(Drop)]
+#[derive(Clone, Copy)]
 pub enum Given {
     Number(u8),
     TooLarge,
@@ -15,7 +17,7 @@ pub enum Given {
 }
 
 // What a byte leads to: the port's answer, and whether the image is no longer the stored one.
-#[derive(Drop)]
+#[derive(Clone, Copy)]
 pub struct Turn {
     pub answer: Answer,
     pub changed: bool,

@@ -71,7 +71,7 @@ regrouped f g (no n) = no (λ b. n (g b))
 
 unfoldable pub reads? : (ids : List ℕ) (l : Log) → Dec (Reads ids l)
 unfolding Dec.and regrouped each? dull? wakes? wrong? unfinished?
-reads? ids (slept dull zeros) = each? dull? dull
+reads? ids (slept dull _) = each? dull? dull
 reads? ids (stayed_shut dull wake packets rest) =
     regrouped (λ r. (r.0, r.1.0, r.1.1.0, r.1.1.1)) (λ r. (r.0, (r.1, (r.2, r.3))))
     (Dec.and (each? dull? dull) (Dec.and (wakes? wake) (Dec.and (each? (wrong? ids) packets) (unfinished? rest))))

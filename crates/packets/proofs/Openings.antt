@@ -12,13 +12,13 @@ use Rattle.packets.proofs.Readings.{one_reading}
 
 -- the log of a port that opened
 abbrev pub Opens : Log → Type 0
-Opens (slept dull zeros) = ⊥
+Opens (slept dull _) = ⊥
 Opens (stayed_shut dull wake packets rest) = ⊥
 Opens (opened dull wake packets unread) = Unit {0}
 
 -- the log of a port that did not
 abbrev pub Shut : Log → Type 0
-Shut (slept dull zeros) = Unit {0}
+Shut (slept dull _) = Unit {0}
 Shut (stayed_shut dull wake packets rest) = Unit {0}
 Shut (opened dull wake packets unread) = ⊥
 
@@ -38,7 +38,7 @@ module _ (ids : List ℕ) where
 
   -- the front of a log that opened
   opening_in : (bs : List ℕ) (l : Log) → Reads ids l → bs ≡ log_bytes ids l → Opens l → (k : ℕ) × (k ≤ length bs) × Opening ids (take k bs)
-  opening_in bs (slept dull zeros) r e o = absurd o
+  opening_in bs (slept dull _) r e o = absurd o
   opening_in bs (stayed_shut dull wake packets rest) r e o = absurd o
   opening_in bs (opened dull wake packets unread) r e o =
       let front = log_bytes ids (opened dull wake packets []) in
@@ -49,12 +49,12 @@ module _ (ids : List ℕ) where
       )
 
 shut_or_opens : (l : Log) → (Opens l → ⊥) → Shut l
-shut_or_opens (slept dull zeros) n = tt
+shut_or_opens (slept dull _) n = tt
 shut_or_opens (stayed_shut dull wake packets rest) n = tt
 shut_or_opens (opened dull wake packets unread) n = n tt
 
 shut_not_opens : (l : Log) → Shut l → Opens l → ⊥
-shut_not_opens (slept dull zeros) s o = o
+shut_not_opens (slept dull _) s o = o
 shut_not_opens (stayed_shut dull wake packets rest) s o = o
 shut_not_opens (opened dull wake packets unread) s o = s
 

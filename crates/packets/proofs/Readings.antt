@@ -25,8 +25,8 @@ module _ (ids bs : List ℕ) (seven : length ids ≡ 7) where
       go k (at_end (n, z)) = record { log = slept k.pieces n; reads = k.plain; whole = cc }
       go k (at_stop wake rest w q) =
           let e : bs ≡ joined stretch_bytes k.pieces ++ (stretch_bytes wake ++ rest) = cc in
-          let after-dull : Bytes (stretch_bytes wake ++ rest) = bytes_back (joined stretch_bytes k.pieces) _ (subst Bytes e y) in
-          woken rest k.pieces wake k.plain w e (cut (packets ids seven) rest (bytes_back (stretch_bytes wake) rest after-dull))
+          let after_dull : Bytes (stretch_bytes wake ++ rest) = bytes_back (joined stretch_bytes k.pieces) _ (subst Bytes e y) in
+          woken rest k.pieces wake k.plain w e (cut (packets ids seven) rest (bytes_back (stretch_bytes wake) rest after_dull))
 
 module _ (ids : List ℕ) (seven : length ids ≡ 7) where
   never_woke : (d d' : List Stretch) (n : ℕ) (w : Stretch) (rest : List ℕ) → Each Dull d → Each Dull d' → Wakes w

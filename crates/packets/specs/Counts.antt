@@ -11,6 +11,6 @@ checks (check low mid high ds ∷ ps) = suc (checks ps)
 
 -- the wrong ID packets of a log: those before its right one, if it has one
 abbrev pub wrong_checks : Log → ℕ
-wrong_checks (slept dull zeros) = 0
+wrong_checks (slept dull _) = 0
 wrong_checks (stayed_shut dull wake packets rest) = checks packets
 wrong_checks (opened dull wake packets unread) = checks packets

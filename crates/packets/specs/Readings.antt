@@ -28,7 +28,7 @@ Wrong ids p = Formed p × (p ≢ right ids)
 
 -- each piece is what it is taken for
 abbrev pub Reads : List ℕ → Log → Type 0
-Reads ids (slept dull zeros) = Each Dull dull
+Reads ids (slept dull _) = Each Dull dull
 Reads ids (stayed_shut dull wake packets rest) = Each Dull dull × Wakes wake × Each (Wrong ids) packets × Unfinished rest
 Reads ids (opened dull wake packets unread) = Each Dull dull × Wakes wake × Each (Wrong ids) packets
 

@@ -16,7 +16,7 @@ use Rattle.unit.specs.declared.Settings.{Settings}
 use Rattle.unit.specs.declared.Registers.{Registers}
 use Rattle.unit.specs.declared.Phase.TheVariants.{Awake}
 use Rattle.unit.specs.Phases.{Kind, inside, need}
-use Rattle.unit.specs.Phases.Kind.{page-read, page-program, unit-program, block-erase, erase-all, id-check}
+use Rattle.unit.specs.Phases.Kind.{page_read, page_program, unit_program, block_erase, all_erase, id_check}
 use Rattle.unit.specs.Model.{whole, state, at_command, no_bytes, longer, ended}
 use Rattle.unit.proofs.Lengths.{need_next}
 use Rattle.acts.specs.Clauses.{after_packet}
@@ -86,31 +86,31 @@ drop_take (suc k) (suc m) (x ∷ l) = drop_take k m l ∙ ap (λ (n : ℕ). take
 
 module _ (s : State) (t : Settings) (got img : List ℕ) where
   -- what has been collected, by its places
-  pub page_shown : (xs : List ℕ) → finished page-read (whole s t got) img (take 2 xs) ≡ says (whole (at_command s.registers) t no_bytes) img (page_reply (page_part part img (get_or xs 0 0) (get_or xs 1 0)))
+  pub page_shown : (xs : List ℕ) → finished page_read (whole s t got) img (take 2 xs) ≡ says (whole (at_command s.registers) t no_bytes) img (page_reply (page_part part img (get_or xs 0 0) (get_or xs 1 0)))
   unfolding finished ended
   page_shown xs = rw (get_or-take 2 xs 0 0 (omega arith), get_or-take 2 xs 1 0 (omega arith))
 
-  pub page_programmed : (xs : List ℕ) → finished page-program (whole s t got) img (take 258 xs)
-      ≡ programs (whole s t got) img (reaching (bank_end page-program) t.protection img (page_address (get_or xs 0 0) (get_or xs 1 0)) (take 256 (drop 2 xs)))
+  pub page_programmed : (xs : List ℕ) → finished page_program (whole s t got) img (take 258 xs)
+      ≡ programs (whole s t got) img (reaching (bank_end page_program) t.protection img (page_address (get_or xs 0 0) (get_or xs 1 0)) (take 256 (drop 2 xs)))
   unfolding finished programmed_by
   page_programmed xs = rw (get_or-take 258 xs 0 0 (omega arith), get_or-take 258 xs 1 0 (omega arith), drop_take 2 258 xs)
 
-  pub bytes_programmed : (m : ℕ) (xs : List ℕ) → finished unit-program (whole s t got) img (take (4 + m) xs)
-      ≡ programs (whole s t got) img (reaching (bank_end unit-program) t.protection img (byte_address (get_or xs 0 0) (get_or xs 1 0) (get_or xs 2 0)) (take (4 + m - 4) (drop 4 xs)))
+  pub bytes_programmed : (m : ℕ) (xs : List ℕ) → finished unit_program (whole s t got) img (take (4 + m) xs)
+      ≡ programs (whole s t got) img (reaching (bank_end unit_program) t.protection img (byte_address (get_or xs 0 0) (get_or xs 1 0) (get_or xs 2 0)) (take (4 + m - 4) (drop 4 xs)))
   unfolding finished programmed_by
   bytes_programmed m xs = rw (get_or-take (4 + m) xs 0 0 (omega arith), get_or-take (4 + m) xs 1 0 (omega arith), get_or-take (4 + m) xs 2 0 (omega arith), drop_take 4 (4 + m) xs)
 
-  pub block_erased : (xs : List ℕ) → finished block-erase (whole s t got) img (take 3 xs)
+  pub block_erased : (xs : List ℕ) → finished block_erase (whole s t got) img (take 3 xs)
       ≡ erases (whole s t got) img (get_or xs 2 0) (erase_block part t.protection img (page_address (get_or xs 0 0) (get_or xs 1 0)))
   unfolding finished
   block_erased xs = rw (get_or-take 3 xs 0 0 (omega arith), get_or-take 3 xs 1 0 (omega arith), get_or-take 3 xs 2 0 (omega arith))
 
   -- an erase of all blocks, by its one byte
-  pub all_erased : (n b : ℕ) → n ≡ 0 → in_packet erase-all n (whole s t got) img b ≡ erases (whole s t got) img b (written (erase_all part t.protection img) true)
+  pub all_erased : (n b : ℕ) → n ≡ 0 → in_packet all_erase n (whole s t got) img b ≡ erases (whole s t got) img b (written (erase_all part t.protection img) true)
   unfolding in_packet completes body need finished
   all_erased n b e = rw e
 
   -- an ID check
-  pub checked : (xs : List ℕ) (r : Registers) → r ≡ after_check t.blank s.registers (is_right img xs) → finished id-check (whole s t got) img xs ≡ after_packet t r img
+  pub checked : (xs : List ℕ) (r : Registers) → r ≡ after_check t.blank s.registers (is_right img xs) → finished id_check (whole s t got) img xs ≡ after_packet t r img
   unfolding finished ended
   checked xs r e = rw e

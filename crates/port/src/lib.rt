@@ -1,4 +1,6 @@
 // The port: a start, a byte of the line, a run of bytes. By value at the edge; inside, the collected bytes are lent, so that no byte copies them.
+#![tactic(auto)]
+
 use commands::Said;
 use protocol::{Answer, Started};
 use unit::{Inputs, Phase, Place, Settings, State, Unit};
@@ -13,14 +15,14 @@ ghost use Rattle.protocol.specs.Calls.{StartEnsures, ByteEnsures, RunEnsures, re
 ghost use Rattle.port.specs.Parts.{took, went, landed, Fine};
 
 // What a byte leads to inside: the state, and the reply's length.
-#[derive(Drop)]
+#[derive(Clone, Copy)]
 pub(crate) struct Took {
     pub(crate) state: State,
     pub(crate) len: usize,
 }
 
 // What a run leads to inside.
-#[derive(Drop)]
+#[derive(Clone, Copy)]
 struct Went {
     state: State,
     taken: usize,

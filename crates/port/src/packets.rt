@@ -2,7 +2,7 @@
 ghost use Rattle.std.specs.Prelude.{◌≡◌, List, ℕ, ◌+◌, ◌≤◌, ◌<◌, length, get_or, take};
 ghost use Rattle.flash.specs.Blocks.{byte_address};
 ghost use Rattle.unit.specs.Phases.{need};
-ghost use Rattle.unit.specs.Phases.Kind.{page-read, page-program, unit-program, block-erase, erase-all, id-check};
+ghost use Rattle.unit.specs.Phases.Kind.{page_read, page_program, unit_program, block_erase, all_erase, id_check};
 ghost use Rattle.unit.specs.Model.{whole};
 ghost use Rattle.protocol.specs.Endings.{is_right, after_check, finished};
 ghost use Rattle.protocol.specs.Step.{in_packet};
@@ -28,7 +28,7 @@ pub(crate) fn page_read(
 ) -> Took
     requires { (n < 2) × (length collected.old ≡ 259) × (256 ≤ length reply.old) }
     ensures { (t : Settings) → took result t collected.new image.now reply.new
-        ≡ answered (in_packet page-read n (whole s t collected.old) image.now b) 1 reply.old }
+        ≡ answered (in_packet page_read n (whole s t collected.old) image.now b) 1 reply.old }
 {
     collect::store(collected, n, b);
     if n == 0 {
@@ -50,7 +50,7 @@ pub(crate) fn page_read(
 fn program_page(s: State, settings: Settings, image: &mut [u8], xs: &[u8]) -> Registers
     requires { length xs.now ≡ 259 }
     ensures { (got : List ℕ) → after_packet settings result image.new
-        ≡ finished page-program (whole s settings got) image.old (take 258 xs.now) }
+        ≡ finished page_program (whole s settings got) image.old (take 258 xs.now) }
 {
     acts::program(
         s,
@@ -72,7 +72,7 @@ pub(crate) fn page_program(
 ) -> State
     requires { (n < 258) × (length collected.old ≡ 259) }
     ensures { silent result settings collected.new image.new
-        ≡ in_packet page-program n (whole s settings collected.old) image.old b }
+        ≡ in_packet page_program n (whole s settings collected.old) image.old b }
 {
     collect::store(collected, n, b);
     if n < 257 {
@@ -93,7 +93,7 @@ fn byte_address(low: u8, mid: u8, high: u8) -> u32
 fn program_unit(s: State, settings: Settings, image: &mut [u8], xs: &[u8]) -> Registers
     requires { length xs.now ≡ 259 }
     ensures { (got : List ℕ) → after_packet settings result image.new
-        ≡ finished unit-program (whole s settings got) image.old (take (4 + get_or xs.now 3 0) xs.now) }
+        ≡ finished unit_program (whole s settings got) image.old (take (4 + get_or xs.now 3 0) xs.now) }
 {
     let n = xs[3] as usize;
     acts::program(
@@ -114,9 +114,9 @@ pub(crate) fn unit_program(
     image: &mut [u8],
     b: u8,
 ) -> State
-    requires { (n < 259) × (length collected.old ≡ 259) × (n < need unit-program (take n collected.old)) }
+    requires { (n < 259) × (length collected.old ≡ 259) × (n < need unit_program (take n collected.old)) }
     ensures { silent result settings collected.new image.new
-        ≡ in_packet unit-program n (whole s settings collected.old) image.old b }
+        ≡ in_packet unit_program n (whole s settings collected.old) image.old b }
 {
     collect::store(collected, n, b);
     if collect::goes_on(n, collected[3]) {
@@ -137,7 +137,7 @@ pub(crate) fn block_erase(
 ) -> State
     requires { (n < 3) × (length collected.old ≡ 259) }
     ensures { silent result settings collected.new image.new
-        ≡ in_packet block-erase n (whole s settings collected.old) image.old b }
+        ≡ in_packet block_erase n (whole s settings collected.old) image.old b }
 {
     collect::store(collected, n, b);
     if n < 2 {
@@ -160,7 +160,7 @@ pub(crate) fn erase_all(
 ) -> State
     requires { n < 1 }
     ensures { silent result settings collected.new image.new
-        ≡ in_packet erase-all n (whole s settings collected.old) image.old b }
+        ≡ in_packet all_erase n (whole s settings collected.old) image.old b }
 {
     let registers = acts::erase_all(s, settings, image, b);
     commands::clear(collected);
@@ -184,9 +184,9 @@ pub(crate) fn id_check(
     image: &[u8],
     b: u8,
 ) -> State
-    requires { (n < 259) × (length collected.old ≡ 259) × (n < need id-check (take n collected.old)) }
+    requires { (n < 259) × (length collected.old ≡ 259) × (n < need id_check (take n collected.old)) }
     ensures { silent result settings collected.new image.now
-        ≡ in_packet id-check n (whole s settings collected.old) image.now b }
+        ≡ in_packet id_check n (whole s settings collected.old) image.now b }
 {
     collect::store(collected, n, b);
     if collect::goes_on(n, collected[3]) {

@@ -9,7 +9,7 @@ use Rattle.flash.specs.Image.{permitted, program, erase_block, erase_all}
 use Rattle.unit.specs.declared.Unit.{Unit as Port}
 use Rattle.unit.specs.declared.Phase.TheVariants.{Awake}
 use Rattle.unit.specs.Phases.{Kind, need, inside}
-use Rattle.unit.specs.Phases.Kind.{page-program, unit-program, block-erase, erase-all}
+use Rattle.unit.specs.Phases.Kind.{page_program, unit_program, block_erase, all_erase}
 use Rattle.protocol.specs.Endings.{bank_end}
 
 -- the address that a packet names, by what followed its command
@@ -26,10 +26,10 @@ pub record Permitted (k : Kind) (p a : ℕ) (ds : List ℕ) : Type 0 where
 
 -- a packet of this kind, with xs after its command, is carried out, and leaves the image so
 pub data Carried (p : ℕ) (img xs : List ℕ) : Kind → List ℕ → Type 0 where
-  page : Permitted page-program p (page_named xs) (drop 2 xs) → Carried p img xs page-program (program part p img (page_named xs) (drop 2 xs)).image
-  bytes : Permitted unit-program p (byte_named xs) (drop 4 xs) → Carried p img xs unit-program (program part p img (byte_named xs) (drop 4 xs)).image
-  block : get_or xs 2 0 ≡ 0xD0 → free p (find part (page_named xs)) ≡ true → Carried p img xs block-erase (erase_block part p img (page_named xs)).image
-  all : get_or xs 0 0 ≡ 0xD0 → Carried p img xs erase-all (erase_all part p img)
+  page : Permitted page_program p (page_named xs) (drop 2 xs) → Carried p img xs page_program (program part p img (page_named xs) (drop 2 xs)).image
+  bytes : Permitted unit_program p (byte_named xs) (drop 4 xs) → Carried p img xs unit_program (program part p img (byte_named xs) (drop 4 xs)).image
+  block : get_or xs 2 0 ≡ 0xD0 → free p (find part (page_named xs)) ≡ true → Carried p img xs block_erase (erase_block part p img (page_named xs)).image
+  all : get_or xs 0 0 ≡ 0xD0 → Carried p img xs all_erase (erase_all part p img)
 
 -- this byte is the last of a packet that is carried out: the image has the right size, and SRD is 80
 pub record Done (u : Port) (img : List ℕ) (b : ℕ) (new : List ℕ) : Type 0 where

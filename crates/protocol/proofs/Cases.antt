@@ -20,7 +20,7 @@ use Rattle.unit.specs.declared.Settings.{Settings}
 use Rattle.unit.specs.declared.Phase.TheVariants.{Asleep, Awake}
 use Rattle.unit.specs.declared.Place.TheVariants.{Command}
 use Rattle.unit.specs.Phases.{Kind, command_of, need, inside, Position, position_of}
-use Rattle.unit.specs.Phases.Kind.{page-read, page-program, unit-program, block-erase, erase-all, id-check}
+use Rattle.unit.specs.Phases.Kind.{page_read, page_program, unit_program, block_erase, all_erase, id_check}
 use Rattle.unit.specs.Phases.Position.{sleeping, commanding, within}
 use Rattle.unit.specs.Model.{with_srd, with_rate, phased, longer, ended, is_open, standing}
 use Rattle.unit.specs.Range.{srd_fits}
@@ -86,12 +86,12 @@ rates_fit b = of_found rate_fits b commands refl
 -- a packet that is not dropped may begin
 needs_open_lem : (k : Kind) → needs_open (begin k) ≡ not (eqb (command_of k) 0xF5)
 unfolding needs_open command_of
-needs_open_lem page-read = refl
-needs_open_lem page-program = refl
-needs_open_lem unit-program = refl
-needs_open_lem block-erase = refl
-needs_open_lem erase-all = refl
-needs_open_lem id-check = refl
+needs_open_lem page_read = refl
+needs_open_lem page_program = refl
+needs_open_lem unit_program = refl
+needs_open_lem block_erase = refl
+needs_open_lem all_erase = refl
+needs_open_lem id_check = refl
 
 may_begin : (k : Kind) (opened : Bool) → cond opened false (needs_open (begin k)) ≡ false → (eqb (command_of k) 0xF5 || opened) ≡ true
 may_begin k true e = or-true (eqb (command_of k) 0xF5)
@@ -185,12 +185,12 @@ module _ (u : Port) (img : List ℕ) (b : ℕ) where
   -- a packet's last byte
   pub packet_ends : (k : Kind) (n : ℕ) → position_of u.phase ≡ within k n → suc n ≡ need k (body n u b) → Ending u img b (finished k u img (body n u b))
   unfolding finished
-  packet_ends page-read n e h = tells _ (omega (arith, page_reply_long img (get_or (body n u b) 0 0) (get_or (body n u b) 1 0)))
-  packet_ends page-program n e h = ending_programs _ (λ r. program_change _ _ page-program _ (λ s m. done page-program n e h r s (page m)))
-  packet_ends unit-program n e h = ending_programs _ (λ r. program_change _ _ unit-program _ (λ s m. done unit-program n e h r s (bytes m)))
-  packet_ends block-erase n e h = ending_erases _ _ (λ r c. erase_change _ _ (λ s m. done block-erase n e h r s (block c m)))
-  packet_ends erase-all n e h = ending_erases _ _ (λ r c. erase_all_change _ (λ s. done erase-all n e h r s (all c)))
-  packet_ends id-check n e h = says_and_ends _ [] (checks (is_right img (body n u b))) (omega arith)
+  packet_ends page_read n e h = tells _ (omega (arith, page_reply_long img (get_or (body n u b) 0 0) (get_or (body n u b) 1 0)))
+  packet_ends page_program n e h = ending_programs _ (λ r. program_change _ _ page_program _ (λ s m. done page_program n e h r s (page m)))
+  packet_ends unit_program n e h = ending_programs _ (λ r. program_change _ _ unit_program _ (λ s m. done unit_program n e h r s (bytes m)))
+  packet_ends block_erase n e h = ending_erases _ _ (λ r c. erase_change _ _ (λ s m. done block_erase n e h r s (block c m)))
+  packet_ends all_erase n e h = ending_erases _ _ (λ r c. erase_all_change _ (λ s. done all_erase n e h r s (all c)))
+  packet_ends id_check n e h = says_and_ends _ [] (checks (is_right img (body n u b))) (omega arith)
 
   -- a command byte that is taken
   leads_effect : (c : Meaning) → rate_fits c ≡ true → dropped c u ≡ false → Leads u img b (effect c u img b)

@@ -18,7 +18,7 @@ use Rattle.protocol.specs.declared.Started.{Started}
 use Rattle.protocol.specs.Step.{step}
 use Rattle.protocol.specs.Calls.{start_refusal, start_call, refusal, Left, refused, answered, byte_call, walked, run_call}
 use Rattle.protocol.proofs.Reasons.{StartReason, Reason}
-use Rattle.protocol.proofs.Reasons.StartReason.{fine as start_Fine, image as start-image, protection}
+use Rattle.protocol.proofs.Reasons.StartReason.{fine as start_fine, image as start_image, protection}
 use Rattle.protocol.proofs.Reasons.Reason.{fine, image, room, range}
 
 -- a call's answer has the number that was found
@@ -32,14 +32,14 @@ module _ (img : List ℕ) (inputs : Inputs) where
   start_reason = go (eqb (length img) 20480) refl (ltb 15 inputs.protection) refl
     where
       go : (s : Bool) → eqb (length img) 20480 ≡ s → (p : Bool) → ltb 15 inputs.protection ≡ p → StartReason img inputs (cond (not s) 1 (cond p 2 0))
-      go false s p t = start-image (eqb-false (length img) 20480 s)
+      go false s p t = start_image (eqb-false (length img) 20480 s)
       go true s true t = protection (eqb-true (length img) 20480 s) (ltb-true 15 inputs.protection t)
-      go true s false t = start_Fine (eqb-true (length img) 20480 s) (ltb-false 15 inputs.protection t)
+      go true s false t = start_fine (eqb-true (length img) 20480 s) (ltb-false 15 inputs.protection t)
 
   pub start_exactly : {n : ℕ} → StartReason img inputs n → start_refusal img inputs ≡ n
   unfolding start_refusal
-  start_exactly (start_Fine s h) = rw (true_sized part img s, le-ltb 15 inputs.protection h)
-  start_exactly (start-image s) = rw (not_sized part img s)
+  start_exactly (start_fine s h) = rw (true_sized part img s, le-ltb 15 inputs.protection h)
+  start_exactly (start_image s) = rw (not_sized part img s)
   start_exactly (protection s h) = rw (true_sized part img s, lt-ltb 15 inputs.protection h)
 
   pub start_number : (start_call img inputs).refusal ≡ start_refusal img inputs

@@ -7,7 +7,7 @@ use lib.ListN.{length, take, get_or}
 use Rattle.slices.specs.Lists.{Bytes}
 use Rattle.unit.specs.declared.Unit.{Unit as Port}
 use Rattle.unit.specs.Phases.{Kind, need, command_of}
-use Rattle.unit.specs.Phases.Kind.{page-read, page-program, unit-program, block-erase, erase-all, id-check}
+use Rattle.unit.specs.Phases.Kind.{page_read, page_program, unit_program, block_erase, all_erase, id_check}
 use Rattle.protocol.specs.Endings.{finished}
 use Rattle.protocol.specs.Step.{run}
 use Rattle.protocol.specs.Rows.{Ready, Partway, Row, Taken}
@@ -55,23 +55,23 @@ sized_row P f (l ∷ m ∷ h ∷ n ∷ ds) b e =
 -- and the rows leave no packet out: bytes that are as many as a kind needs are of its row
 pub every_packet : (k : Kind) (xs : List ℕ) → Bytes xs → length xs ≡ need k xs → Row k (command_of k) xs
 unfolding need command_of
-every_packet page-read [] b e = absurd (omega arith)
-every_packet page-read (m ∷ []) b e = absurd (omega arith)
-every_packet page-read (m ∷ h ∷ []) b e = after_ff
-every_packet page-read (m ∷ h ∷ x ∷ xs) b e = absurd (omega arith)
-every_packet page-program [] b e = absurd (omega arith)
-every_packet page-program (m ∷ []) b e = absurd (omega arith)
-every_packet page-program (m ∷ h ∷ ds) b e = after_41 {ds = ds} (omega arith)
-every_packet unit-program xs b e = sized_row (Row unit-program 0x49) (λ l m h ds s. after_49 {ds = ds} s) xs b e
-every_packet block-erase [] b e = absurd (omega arith)
-every_packet block-erase (m ∷ []) b e = absurd (omega arith)
-every_packet block-erase (m ∷ h ∷ []) b e = absurd (omega arith)
-every_packet block-erase (m ∷ h ∷ c ∷ []) b e = after_20
-every_packet block-erase (m ∷ h ∷ c ∷ x ∷ xs) b e = absurd (omega arith)
-every_packet erase-all [] b e = absurd (omega arith)
-every_packet erase-all (c ∷ []) b e = after_a7
-every_packet erase-all (c ∷ x ∷ xs) b e = absurd (omega arith)
-every_packet id-check xs b e = sized_row (Row id-check 0xF5) (λ l m h ds s. after_f5 {ds = ds} s) xs b e
+every_packet page_read [] b e = absurd (omega arith)
+every_packet page_read (m ∷ []) b e = absurd (omega arith)
+every_packet page_read (m ∷ h ∷ []) b e = after_ff
+every_packet page_read (m ∷ h ∷ x ∷ xs) b e = absurd (omega arith)
+every_packet page_program [] b e = absurd (omega arith)
+every_packet page_program (m ∷ []) b e = absurd (omega arith)
+every_packet page_program (m ∷ h ∷ ds) b e = after_41 {ds = ds} (omega arith)
+every_packet unit_program xs b e = sized_row (Row unit_program 0x49) (λ l m h ds s. after_49 {ds = ds} s) xs b e
+every_packet block_erase [] b e = absurd (omega arith)
+every_packet block_erase (m ∷ []) b e = absurd (omega arith)
+every_packet block_erase (m ∷ h ∷ []) b e = absurd (omega arith)
+every_packet block_erase (m ∷ h ∷ c ∷ []) b e = after_20
+every_packet block_erase (m ∷ h ∷ c ∷ x ∷ xs) b e = absurd (omega arith)
+every_packet all_erase [] b e = absurd (omega arith)
+every_packet all_erase (c ∷ []) b e = after_a7
+every_packet all_erase (c ∷ x ∷ xs) b e = absurd (omega arith)
+every_packet id_check xs b e = sized_row (Row id_check 0xF5) (λ l m h ds s. after_f5 {ds = ds} s) xs b e
 
 -- P13: a packet acts at its last byte only. (With n = 0, that is the size byte.) Until then nothing but the phase and the collected bytes changes
 pub front : {u : Port} → Ready u → (img : List ℕ) {k : Kind} {c : ℕ} {xs : List ℕ} → Row k c xs → Taken u k → (j : ℕ) → j < length xs → Partway u img k xs j (run u img (c ∷ take j xs))

@@ -15,7 +15,7 @@ use Rattle.unit.specs.declared.Settings.{Settings}
 use Rattle.unit.specs.declared.Phase.{Phase}
 use Rattle.unit.specs.declared.Phase.TheVariants.{Awake}
 use Rattle.unit.specs.Phases.{Kind, need, command_of, inside}
-use Rattle.unit.specs.Phases.Kind.{page-read, page-program, unit-program, block-erase, erase-all, id-check}
+use Rattle.unit.specs.Phases.Kind.{page_read, page_program, unit_program, block_erase, all_erase, id_check}
 use Rattle.unit.specs.Model.{whole, state, phased, longer, ended, is_open, standing}
 use Rattle.unit.proofs.Builders.{phased_phase, phased_registers, phased_settings, phased_collected, ended_phase, ended_registers, ended_settings, ended_collected}
 use Rattle.unit.proofs.Inside.{longer_phase, longer_registers, longer_settings, longer_collected}
@@ -46,18 +46,18 @@ all_take u c e = rw e (cond_same (is_open u.registers) false)
 pub step_taken : {u : Port} → Ready u → (img : List ℕ) (b : ℕ) (c : Command) → meaning b ≡ c → dropped c u ≡ false → step u img b ≡ effect c u img b
 unfolding commanded
 step_taken {u} ready img b c e t =
-    step_commanding u img b ready.at_command_lem
+    step_commanding u img b ready.at_a_command
     ∙ (ap (λ (c : Command). commanded c u img b) e ∙ ap (λ (t : Bool). cond t (quiet u img) (effect c u img b)) t)
 
 -- the first byte of a packet
 means : (k : Kind) → meaning (command_of k) ≡ begin k
 unfolding meaning commands command_of
-means page-read = refl
-means page-program = refl
-means unit-program = refl
-means block-erase = refl
-means erase-all = refl
-means id-check = refl
+means page_read = refl
+means page_program = refl
+means unit_program = refl
+means block_erase = refl
+means all_erase = refl
+means id_check = refl
 
 taken : (u : Port) (k : Kind) → Taken u k → dropped (begin k) u ≡ false
 unfolding needs_open
@@ -71,31 +71,31 @@ begins {u} ready img k may = step_taken ready img (command_of k) (begin k) (mean
 -- how long a packet is shows in its front: before the size byte it is long enough
 need_front : (k : Kind) (xs : List ℕ) (n : ℕ) → n < need k xs → n < need k (take n xs)
 unfolding need
-need_front page-read xs n h = h
-need_front page-program xs n h = h
-need_front unit-program xs n h = ltb-true n _ (sym (few_sized n xs (4 + get_or xs 3 0) refl) ∙ lt-ltb n (4 + get_or xs 3 0) h)
-need_front block-erase xs n h = h
-need_front erase-all xs n h = h
-need_front id-check xs n h = ltb-true n _ (sym (few_sized n xs (4 + get_or xs 3 0) refl) ∙ lt-ltb n (4 + get_or xs 3 0) h)
+need_front page_read xs n h = h
+need_front page_program xs n h = h
+need_front unit_program xs n h = ltb-true n _ (sym (few_sized n xs (4 + get_or xs 3 0) refl) ∙ lt-ltb n (4 + get_or xs 3 0) h)
+need_front block_erase xs n h = h
+need_front all_erase xs n h = h
+need_front id_check xs n h = ltb-true n _ (sym (few_sized n xs (4 + get_or xs 3 0) refl) ∙ lt-ltb n (4 + get_or xs 3 0) h)
 
 some_needed : (k : Kind) (xs : List ℕ) → 0 < need k xs
 unfolding need
-some_needed page-read xs = omega arith
-some_needed page-program xs = omega arith
-some_needed unit-program xs = omega arith
-some_needed block-erase xs = omega arith
-some_needed erase-all xs = omega arith
-some_needed id-check xs = omega arith
+some_needed page_read xs = omega arith
+some_needed page_program xs = omega arith
+some_needed unit_program xs = omega arith
+some_needed block_erase xs = omega arith
+some_needed all_erase xs = omega arith
+some_needed id_check xs = omega arith
 
 -- an ending reads the unit's registers and settings alone
 ends_alike : (k : Kind) (v : Port) (f : Phase) (got img xs : List ℕ) → finished k v img xs ≡ finished k (whole (state f v.registers) v.settings got) img xs
 unfolding finished programs erases ended
-ends_alike page-read v f got img xs = refl
-ends_alike page-program v f got img xs = refl
-ends_alike unit-program v f got img xs = refl
-ends_alike block-erase v f got img xs = refl
-ends_alike erase-all v f got img xs = refl
-ends_alike id-check v f got img xs = refl
+ends_alike page_read v f got img xs = refl
+ends_alike page_program v f got img xs = refl
+ends_alike unit_program v f got img xs = refl
+ends_alike block_erase v f got img xs = refl
+ends_alike all_erase v f got img xs = refl
+ends_alike id_check v f got img xs = refl
 
 -- the packet's bytes but the last
 module _ {u : Port} (ready : Ready u) (img : List ℕ) (k : Kind) (may : Taken u k) (xs : List ℕ) (fits : length xs ≤ 259) (long : length xs ≡ need k xs) where

@@ -16,7 +16,7 @@ use Rattle.flash.proofs.Places.{rising}
 use Rattle.flash.proofs.Outcomes.{true_sized, program_refused, program_done}
 use Rattle.flash.proofs.Effects.{program_effect, good_each, each_good}
 use Rattle.unit.specs.declared.Unit.{Unit as Port}
-use Rattle.unit.specs.Phases.Kind.{page-program, unit-program}
+use Rattle.unit.specs.Phases.Kind.{page_program, unit_program}
 use Rattle.unit.specs.Model.{is_open}
 use Rattle.protocol.specs.Outcome.{Outcome}
 use Rattle.protocol.specs.Endings.{nothing, reports, bank_end, reaching, programmed_by, programs, finished}
@@ -57,10 +57,10 @@ module _ {u : Port} (ready : Ready u) (opened : is_open u.registers ≡ true) (i
   unfolding finished programmed_by bank_end
   comes (page {mid} {high} {ds} h) =
       let e : page_address mid high ≡ 256 * mid + 65536 * high = omega arith in
-      row_comes_to ready img (after_41 {ds = ds} h) (inr opened) ∙ ap (λ (a : ℕ). programs u img (reaching (bank_end page-program) u.settings.protection img a ds)) e
+      row_comes_to ready img (after_41 {ds = ds} h) (inr opened) ∙ ap (λ (a : ℕ). programs u img (reaching (bank_end page_program) u.settings.protection img a ds)) e
   comes (bytes {low} {mid} {high} {ds} h) =
       let e : byte_address low mid high ≡ low + 256 * mid + 65536 * high = omega arith in
-      row_comes_to ready img (after_49 {ds = ds} h) (inr opened) ∙ ap (λ (a : ℕ). programs u img (reaching (bank_end unit-program) u.settings.protection img a ds)) e
+      row_comes_to ready img (after_49 {ds = ds} h) (inr opened) ∙ ap (λ (a : ℕ). programs u img (reaching (bank_end unit_program) u.settings.protection img a ds)) e
 
   module _ {packet : List ℕ} {a : ℕ} {ds : List ℕ} {most : ℕ} (is : Programs packet a ds most) where
     -- P14: if SR4 or SR5 stands, nothing

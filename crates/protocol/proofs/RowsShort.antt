@@ -65,7 +65,7 @@ module _ {u : Port} (ready : Ready u) (img : List ℕ) where
 
   shut : (b : ℕ) → is_open u.registers ≡ false → needs_open (meaning b) ≡ true → Dropped u img (step u img b)
   unfolding commanded dropped
-  shut b closed e = dropped_by b (step_commanding u img b ready.at_command_lem ∙ rw (closed, e))
+  shut b closed e = dropped_by b (step_commanding u img b ready.at_a_command ∙ rw (closed, e))
 
   -- P1 to P6, P12: a closed unit drops FF, 41, 49, 20, A7 and 50: the byte does nothing, and the next byte is a command byte
   pub closed_drops : {b : ℕ} → Guarded b → is_open u.registers ≡ false → Dropped u img (step u img b)

@@ -140,7 +140,7 @@ loop_is_walk {u} s img size (b ∷ bs) y area =
     let o : Outcome = step u img b in
     let n : ℕ = length o.reply in
     let rest : Walk = walked (length area - n) o.unit o.image bs in
-    let later = loop_is_walk (sound_step s img b y.0) o.image (size_step u img b ∙ size) bs y.1 (drop n area) in
+    let later = loop_is_walk {u = o.unit} (sound_step s img b y.0) o.image (size_step u img b ∙ size) bs y.1 (drop n area) in
     cond_elim (λ (w : Walk). looped u img (b ∷ bs) area ≡ answer area w) (ltb (length area) 256) (walk u img [] 0) (after u img b rest)
     (λ t. loop_stops u img b bs area (λ e. omega (arith, ltb-true (length area) 256 t, (not_refused u img area e).1)))
     (λ t.

@@ -17,7 +17,7 @@ use Rattle.unit.specs.declared.Settings.{Settings}
 use Rattle.unit.specs.declared.Phase.TheVariants.{Asleep, Awake}
 use Rattle.unit.specs.declared.Place.TheVariants.{Command}
 use Rattle.unit.specs.Phases.{Kind, command_of, need, inside, position_of}
-use Rattle.unit.specs.Phases.Kind.{page-read, page-program, unit-program, block-erase, erase-all, id-check}
+use Rattle.unit.specs.Phases.Kind.{page_read, page_program, unit_program, block_erase, all_erase, id_check}
 use Rattle.unit.specs.Model.{with_srd, is_open}
 use Rattle.unit.specs.Range.{registers_fit, settings_fit, packet_fits, position_fits}
 use Rattle.unit.proofs.Positions.{position_inside}
@@ -52,12 +52,12 @@ settings_left {t} {r} (rate_set n h) e = settings_rate t r n ∙ e
 -- a packet of no bytes yet is short
 short : (k : Kind) → ltb 0 (need k []) ≡ true
 unfolding need
-short page-read = refl
-short page-program = refl
-short unit-program = refl
-short block-erase = refl
-short erase-all = refl
-short id-check = refl
+short page_read = refl
+short page_program = refl
+short unit_program = refl
+short block_erase = refl
+short all_erase = refl
+short id_check = refl
 
 begun_fits : (k : Kind) (opened : Bool) (got : List ℕ) → (eqb (command_of k) 0xF5 || opened) ≡ true → position_fits (position_of (Awake (inside k 0))) opened got ≡ true
 unfolding position_fits packet_fits
@@ -84,7 +84,7 @@ module _ {u : Port} (s : Sound u) (img : List ℕ) (b : ℕ) (small : b < 256) w
 
 pub sound_run : {u : Port} → Sound u → (img bs : List ℕ) → Bytes bs → Sound (run u img bs).unit
 sound_run s img [] y = s
-sound_run {u} s img (b ∷ bs) y = sound_run (sound_step s img b y.0) (step u img b).image bs y.1
+sound_run {u} s img (b ∷ bs) y = sound_run {u = (step u img b).unit} (sound_step s img b y.0) (step u img b).image bs y.1
 
 size_carried : {p : ℕ} {img xs new : List ℕ} {k : Kind} → Carried p img xs k new → length new ≡ length img
 size_carried {p} {img} (page m) = length_program part p img _ _

@@ -3,7 +3,7 @@ use Rattle.std.specs.Prelude.{ℕ, Bool, true, false, cond, List, [], ◌∷◌,
 use Rattle.unit.specs.declared.Unit.{Unit as Port}
 use Rattle.unit.specs.declared.Phase.TheVariants.{Awake}
 use Rattle.unit.specs.Phases.{Kind, inside}
-use Rattle.unit.specs.Phases.Kind.{page-read, page-program, unit-program, block-erase, erase-all, id-check}
+use Rattle.unit.specs.Phases.Kind.{page_read, page_program, unit_program, block_erase, all_erase, id_check}
 use Rattle.unit.specs.Model.{with_srd, with_rate, phased, ended, is_open}
 use Rattle.protocol.specs.Outcome.{Outcome, says, quiet}
 
@@ -16,14 +16,14 @@ pub data Command : Type 0 where
 -- the table's column "Byte"
 unfoldable pub commands : List (ℕ × Command)
 commands =
-    (0xFF, begin page-read)
-    ∷ (0x41, begin page-program)
-    ∷ (0x49, begin unit-program)
-    ∷ (0x20, begin block-erase)
-    ∷ (0xA7, begin erase-all)
+    (0xFF, begin page_read)
+    ∷ (0x41, begin page_program)
+    ∷ (0x49, begin unit_program)
+    ∷ (0x20, begin block_erase)
+    ∷ (0xA7, begin all_erase)
     ∷ (0x50, clear)
     ∷ (0x70, status)
-    ∷ (0xF5, begin id-check)
+    ∷ (0xF5, begin id_check)
     ∷ (0xFB, version)
     ∷ (0xB0, rate 0)
     ∷ (0xB1, rate 1)
@@ -43,12 +43,12 @@ meaning b = lookup b commands
 
 -- the table's column "Closed?": what a closed unit drops
 unfoldable pub needs_open : Command → Bool
-needs_open (begin page-read) = true
-needs_open (begin page-program) = true
-needs_open (begin unit-program) = true
-needs_open (begin block-erase) = true
-needs_open (begin erase-all) = true
-needs_open (begin id-check) = false
+needs_open (begin page_read) = true
+needs_open (begin page_program) = true
+needs_open (begin unit_program) = true
+needs_open (begin block_erase) = true
+needs_open (begin all_erase) = true
+needs_open (begin id_check) = false
 needs_open clear = true
 needs_open status = false
 needs_open version = false

@@ -6,7 +6,7 @@ use Rattle.flash.specs.Image.{Written, written, stored_id, page_part, program, e
 use Rattle.unit.specs.declared.Unit.{Unit as Port}
 use Rattle.unit.specs.declared.Registers.{Registers}
 use Rattle.unit.specs.Phases.{Kind}
-use Rattle.unit.specs.Phases.Kind.{page-read, page-program, unit-program, block-erase, erase-all, id-check}
+use Rattle.unit.specs.Phases.Kind.{page_read, page_program, unit_program, block_erase, all_erase, id_check}
 use Rattle.unit.specs.Model.{with_srd, with_srd1, with_mismatches, ended, standing}
 use Rattle.unit.specs.Range.{max_mismatches}
 use Rattle.protocol.specs.Outcome.{Outcome, says, quiet}
@@ -30,12 +30,12 @@ page_reply (x ∷ xs) = x ∷ xs
 
 -- how far the low 16 address bits plus the size of a program may reach, by its packet: a page program to the end of its bank, a unit program not to the bank's last byte (document 02, Item 3)
 unfoldable pub bank_end : Kind → ℕ
-bank_end page-program = 65536
-bank_end unit-program = 65535
-bank_end page-read = 0
-bank_end block-erase = 0
-bank_end erase-all = 0
-bank_end id-check = 0
+bank_end page_program = 65536
+bank_end unit_program = 65535
+bank_end page_read = 0
+bank_end block_erase = 0
+bank_end all_erase = 0
+bank_end id_check = 0
 
 -- what bytes write from an address on: nothing where the low 16 address bits plus their number are more than `most`
 abbrev pub reaching : ℕ → ℕ → List ℕ → ℕ → List ℕ → Written
@@ -79,13 +79,13 @@ after_check blank r right =
     with_mismatches (with_srd1 r (judged blank r.mismatches right)) (counted blank r.mismatches right)
 
 unfoldable pub finished : Kind → Port → List ℕ → List ℕ → Outcome
-finished page-read u img xs =
+finished page_read u img xs =
     says (ended u u.registers) img (page_reply (page_part part img (get_or xs 0 0) (get_or xs 1 0)))
-finished page-program u img xs =
-    programs u img (programmed_by page-program u.settings.protection img (page_address (get_or xs 0 0) (get_or xs 1 0)) (drop 2 xs))
-finished unit-program u img xs =
-    programs u img (programmed_by unit-program u.settings.protection img (byte_address (get_or xs 0 0) (get_or xs 1 0) (get_or xs 2 0)) (drop 4 xs))
-finished block-erase u img xs =
+finished page_program u img xs =
+    programs u img (programmed_by page_program u.settings.protection img (page_address (get_or xs 0 0) (get_or xs 1 0)) (drop 2 xs))
+finished unit_program u img xs =
+    programs u img (programmed_by unit_program u.settings.protection img (byte_address (get_or xs 0 0) (get_or xs 1 0) (get_or xs 2 0)) (drop 4 xs))
+finished block_erase u img xs =
     erases u img (get_or xs 2 0) (erase_block part u.settings.protection img (page_address (get_or xs 0 0) (get_or xs 1 0)))
-finished erase-all u img xs = erases u img (get_or xs 0 0) (written (erase_all part u.settings.protection img) true)
-finished id-check u img xs = quiet (ended u (after_check u.settings.blank u.registers (is_right img xs))) img
+finished all_erase u img xs = erases u img (get_or xs 0 0) (written (erase_all part u.settings.protection img) true)
+finished id_check u img xs = quiet (ended u (after_check u.settings.blank u.registers (is_right img xs))) img

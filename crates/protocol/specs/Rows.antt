@@ -10,14 +10,14 @@ use Rattle.unit.specs.declared.Phase.{Phase}
 use Rattle.unit.specs.declared.Phase.TheVariants.{Awake}
 use Rattle.unit.specs.declared.Place.TheVariants.{Command}
 use Rattle.unit.specs.Phases.{Kind, inside}
-use Rattle.unit.specs.Phases.Kind.{page-read, page-program, unit-program, block-erase, erase-all, id-check}
+use Rattle.unit.specs.Phases.Kind.{page_read, page_program, unit_program, block_erase, all_erase, id_check}
 use Rattle.unit.specs.Model.{is_open}
 use Rattle.unit.specs.Range.{in_range}
 use Rattle.protocol.specs.Outcome.{Outcome}
 
 -- a unit in range at a command position
 pub record Ready (u : Port) : Type 0 where
-  pub at_command_lem : u.phase ≡ Awake Command
+  pub at_a_command : u.phase ≡ Awake Command
   pub ranged : in_range u ≡ true
   pub room : length u.collected ≡ 259
 
@@ -60,16 +60,16 @@ Kept img new = new ≡ img
 
 -- the table's columns "Byte" and "After it", of the packets of several bytes
 pub data Row : Kind → ℕ → List ℕ → Type 0 where
-  after_ff : {mid high : ℕ} → Row page-read 0xFF (mid ∷ high ∷ [])
-  after_41 : {mid high : ℕ} {ds : List ℕ} → length ds ≡ 256 → Row page-program 0x41 (mid ∷ high ∷ ds)
-  after_49 : {low mid high : ℕ} {ds : List ℕ} → length ds < 256 → Row unit-program 0x49 (low ∷ mid ∷ high ∷ length ds ∷ ds)
-  after_20 : {mid high confirm : ℕ} → Row block-erase 0x20 (mid ∷ high ∷ confirm ∷ [])
-  after_a7 : {confirm : ℕ} → Row erase-all 0xA7 (confirm ∷ [])
-  after_f5 : {low mid high : ℕ} {ds : List ℕ} → length ds < 256 → Row id-check 0xF5 (low ∷ mid ∷ high ∷ length ds ∷ ds)
+  after_ff : {mid high : ℕ} → Row page_read 0xFF (mid ∷ high ∷ [])
+  after_41 : {mid high : ℕ} {ds : List ℕ} → length ds ≡ 256 → Row page_program 0x41 (mid ∷ high ∷ ds)
+  after_49 : {low mid high : ℕ} {ds : List ℕ} → length ds < 256 → Row unit_program 0x49 (low ∷ mid ∷ high ∷ length ds ∷ ds)
+  after_20 : {mid high confirm : ℕ} → Row block_erase 0x20 (mid ∷ high ∷ confirm ∷ [])
+  after_a7 : {confirm : ℕ} → Row all_erase 0xA7 (confirm ∷ [])
+  after_f5 : {low mid high : ℕ} {ds : List ℕ} → length ds < 256 → Row id_check 0xF5 (low ∷ mid ∷ high ∷ length ds ∷ ds)
 
 -- the table's column "Closed?": such a packet is taken by an open unit, and an ID check by any
 abbrev pub Taken : Port → Kind → Type 0
-Taken u k = (k ≡ id-check) ⊎ (is_open u.registers ≡ true)
+Taken u k = (k ≡ id_check) ⊎ (is_open u.registers ≡ true)
 
 -- and the bytes that a closed unit drops
 pub data Guarded : ℕ → Type 0 where

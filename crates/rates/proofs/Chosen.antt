@@ -33,8 +33,8 @@ module _ (f : Float) (rate : ℕ) where
   -- the first from k on, of n more
   first_is : (d n k : ℕ) → is_least f rate d ≡ true → ((j : ℕ) → j < d → is_least f rate j ≡ false) → k ≤ d → d ≤ k + n → first_least f rate n k ≡ d
   unfolding first_least
-  first_is d zero k is not-before a b = omega arith
-  first_is d (suc n) k is not-before a b = go (leb d k) refl (λ g. first_is d n (suc k) is not-before g (omega arith))
+  first_is d zero k is not_before a b = omega arith
+  first_is d (suc n) k is not_before a b = go (leb d k) refl (λ g. first_is d n (suc k) is not_before g (omega arith))
     where
       go : (t : Bool) → leb d k ≡ t → (suc k ≤ d → first_least f rate n (suc k) ≡ d) → cond (is_least f rate k) k (first_least f rate n (suc k)) ≡ d
       go true e later =
@@ -44,7 +44,7 @@ module _ (f : Float) (rate : ℕ) where
           rw (y, s)
       go false e later =
           let g : k < d = leb-false d k e in
-          rw (not-before k g, later g)
+          rw (not_before k g, later g)
 
   module _ (p : Plan) (n : Nearest f rate 255 p) where
     own_distance : farness f rate p.divider ≡ p.distance

@@ -1,4 +1,6 @@
 // Which divider suits a clock (document 02, Item 7).
+#![tactic(auto)]
+
 ghost use Rattle.std.specs.Prelude.{◌≡◌};
 ghost use Rattle.rates.specs.Clocks.{in_range, hertz as hertz_of};
 ghost use Rattle.rates.specs.Rates.{is_listed, plan_at};
@@ -6,7 +8,7 @@ ghost use Rattle.rates.specs.Plans.{refused_with, planned};
 ghost use Rattle.rates.specs.Search.{nearer as nearer_of, best_up_to};
 
 // The clock: fixed at 8 MHz, fixed at 7.3728 MHz, or external with its frequency in hertz.
-#[derive(Drop)]
+#[derive(Clone, Copy)]
 pub enum Clock {
     Fixed8,
     Fixed7,
@@ -14,7 +16,7 @@ pub enum Clock {
 }
 
 // The rate that a divider reaches, its distance from the wanted rate, both in hertz, and the divider.
-#[derive(Drop)]
+#[derive(Clone, Copy)]
 pub struct Plan {
     pub reached: f64,
     pub distance: f64,
@@ -22,7 +24,7 @@ pub struct Plan {
 }
 
 // A plan, or a refusal's number with a plan of zeros.
-#[derive(Drop)]
+#[derive(Clone, Copy)]
 pub struct Planned {
     pub refusal: u8,
     pub plan: Plan,
@@ -48,6 +50,7 @@ fn is_in_range(f: f64) -> bool
     }
 }
 
+#[tactic(auto, unfolding(crate::specs::Rates::is_listed))]
 fn is_listed(rate: u32) -> bool
     ensures { result ≡ is_listed rate }
 {
@@ -83,6 +86,7 @@ fn plan_at(f: f64, rate: u32, divider: u8) -> Plan
 }
 
 // The nearer of two plans, and the first where both are as near.
+#[tactic(auto, using(crate::proofs::Steps::second_nearer, crate::proofs::Steps::second_not_nearer))]
 fn nearer(p: Plan, q: Plan) -> Plan
     ensures { result ≡ nearer_of p q }
 {

@@ -1,4 +1,6 @@
 // Slices of bytes: the first of them, a copy, and whether two hold the same.
+#![tactic(auto)]
+
 ghost use Rattle.std.specs.Prelude.{◌≡◌, min, take};
 ghost use Rattle.slices.specs.Lists.{same, front};
 

@@ -1,4 +1,6 @@
 // What the timing calls from Rust: the port's public run on an open unit at a command, and what it answered as bytes.
+#![tactic(auto)]
+
 use protocol::Answer;
 use unit::{Inputs, Phase, Place, Unit};
 

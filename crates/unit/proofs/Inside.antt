@@ -11,7 +11,7 @@ use borrow.Author.Tests.{ltb-true, lt-ltb}
 use Rattle.unit.specs.declared.Unit.{Unit as Port}
 use Rattle.unit.specs.declared.Phase.TheVariants.{Awake}
 use Rattle.unit.specs.Phases.{Kind, Position, command_of, need, position_of, inside}
-use Rattle.unit.specs.Phases.Kind.{page-read, page-program, unit-program, block-erase, erase-all, id-check}
+use Rattle.unit.specs.Phases.Kind.{page_read, page_program, unit_program, block_erase, all_erase, id_check}
 use Rattle.unit.specs.Phases.Position.{within}
 use Rattle.unit.specs.Model.{longer, is_open}
 use Rattle.unit.specs.Range.{packet_fits, position_fits}
@@ -44,20 +44,20 @@ unfolding position_fits packet_fits
 packet_fits_lem {k} {n} opened got p e h = and_both (eqb (command_of k) 0xF5 || opened) _ (rw e at h)
 
 -- any packet but an ID check needs an open unit
-needs_open_lem : (k : Kind) (opened : Bool) → (eqb (command_of k) 0xF5 || opened) ≡ true → (k ≡ id-check → ⊥) → opened ≡ true
+needs_open_lem : (k : Kind) (opened : Bool) → (eqb (command_of k) 0xF5 || opened) ≡ true → (k ≡ id_check → ⊥) → opened ≡ true
 unfolding command_of
-needs_open_lem page-read opened e other = e
-needs_open_lem page-program opened e other = e
-needs_open_lem unit-program opened e other = e
-needs_open_lem block-erase opened e other = e
-needs_open_lem erase-all opened e other = e
-needs_open_lem id-check opened e other = absurd (other refl)
+needs_open_lem page_read opened e other = e
+needs_open_lem page_program opened e other = e
+needs_open_lem unit_program opened e other = e
+needs_open_lem block_erase opened e other = e
+needs_open_lem all_erase opened e other = e
+needs_open_lem id_check opened e other = absurd (other refl)
 
 module _ {u : Port} (s : Sound u) {k : Kind} {n : ℕ} (e : position_of u.phase ≡ within k n) where
   fits_inside : ((eqb (command_of k) 0xF5 || is_open u.registers) ≡ true) × (ltb n (need k (take n u.collected)) ≡ true)
   fits_inside = packet_fits_lem (is_open u.registers) u.collected (position_of u.phase) e s.position
 
-  pub open_inside : (k ≡ id-check → ⊥) → is_open u.registers ≡ true
+  pub open_inside : (k ≡ id_check → ⊥) → is_open u.registers ≡ true
   open_inside other = needs_open_lem k (is_open u.registers) fits_inside.0 other
 
   pub few : n < need k (take n u.collected)

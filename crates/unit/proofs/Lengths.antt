@@ -13,16 +13,16 @@ use Rattle.slices.proofs.Lists.{getd_small}
 use Rattle.unit.specs.Phases.{Kind, command_of, need, Position}
 use Rattle.unit.specs.Phases.Position.{sleeping, commanding, within}
 use Rattle.unit.specs.Range.{packet_fits, position_fits, size_alone}
-use Rattle.unit.specs.Phases.Kind.{page-read, page-program, unit-program, block-erase, erase-all, id-check}
+use Rattle.unit.specs.Phases.Kind.{page_read, page_program, unit_program, block_erase, all_erase, id_check}
 
 pub need_small : (k : Kind) (xs : List ℕ) → Bytes xs → need k xs ≤ 259
 unfolding need
-need_small page-read xs h = omega arith
-need_small page-program xs h = omega arith
-need_small unit-program xs h = omega (arith, getd_small xs 3 h)
-need_small block-erase xs h = omega arith
-need_small erase-all xs h = omega arith
-need_small id-check xs h = omega (arith, getd_small xs 3 h)
+need_small page_read xs h = omega arith
+need_small page_program xs h = omega arith
+need_small unit_program xs h = omega (arith, getd_small xs 3 h)
+need_small block_erase xs h = omega arith
+need_small all_erase xs h = omega arith
+need_small id_check xs h = omega (arith, getd_small xs 3 h)
 
 -- one byte more of a sized packet that it does not complete
 sized_next : (xs : List ℕ) (b : ℕ) → length xs < 4 + get_or xs 3 0 → (suc (length xs) ≡ 4 + get_or (xs ++ b ∷ []) 3 0 → ⊥) → suc (length xs) < 4 + get_or (xs ++ b ∷ []) 3 0
@@ -35,12 +35,12 @@ sized_next (x ∷ y ∷ z ∷ w ∷ xs) b h left = omega arith
 -- one byte more that does not complete a packet leaves it short
 pub need_next : (k : Kind) (xs : List ℕ) (b : ℕ) → length xs < need k xs → (suc (length xs) ≡ need k (xs ++ b ∷ []) → ⊥) → suc (length xs) < need k (xs ++ b ∷ [])
 unfolding need
-need_next page-read xs b h left = omega arith
-need_next page-program xs b h left = omega arith
-need_next unit-program xs b h left = sized_next xs b h left
-need_next block-erase xs b h left = omega arith
-need_next erase-all xs b h left = omega arith
-need_next id-check xs b h left = sized_next xs b h left
+need_next page_read xs b h left = omega arith
+need_next page_program xs b h left = omega arith
+need_next unit_program xs b h left = sized_next xs b h left
+need_next block_erase xs b h left = omega arith
+need_next all_erase xs b h left = omega arith
+need_next id_check xs b h left = sized_next xs b h left
 
 -- whether a sized packet is short shows in all that is collected as well: before the fourth byte it always is
 pub few_sized : (n : ℕ) (got : List ℕ) (m : ℕ) → m ≡ 4 + get_or got 3 0 → ltb n m ≡ ltb n (4 + get_or (take n got) 3 0)
@@ -55,12 +55,12 @@ few_sized n got m e = go (ltb n 4) refl
 
 packet_size_decides : (k : Kind) (n : ℕ) (got : List ℕ) → ltb n (need k (take n got)) ≡ ltb n (need k (take n (size_alone (get_or got 3 0))))
 unfolding need
-packet_size_decides page-read n got = refl
-packet_size_decides page-program n got = refl
-packet_size_decides unit-program n got = sym (few_sized n got _ refl) ∙ few_sized n (size_alone (get_or got 3 0)) _ refl
-packet_size_decides block-erase n got = refl
-packet_size_decides erase-all n got = refl
-packet_size_decides id-check n got = sym (few_sized n got _ refl) ∙ few_sized n (size_alone (get_or got 3 0)) _ refl
+packet_size_decides page_read n got = refl
+packet_size_decides page_program n got = refl
+packet_size_decides unit_program n got = sym (few_sized n got _ refl) ∙ few_sized n (size_alone (get_or got 3 0)) _ refl
+packet_size_decides block_erase n got = refl
+packet_size_decides all_erase n got = refl
+packet_size_decides id_check n got = sym (few_sized n got _ refl) ∙ few_sized n (size_alone (get_or got 3 0)) _ refl
 
 -- of the collected bytes, a position asks for the size alone
 pub size_decides : (p : Position) (opened : Bool) (got : List ℕ) → position_fits p opened got ≡ position_fits p opened (size_alone (get_or got 3 0))

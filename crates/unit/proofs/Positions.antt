@@ -5,16 +5,16 @@ use Rattle.unit.specs.declared.Phase.{Phase}
 use Rattle.unit.specs.declared.Phase.TheVariants.{Asleep, Awake}
 use Rattle.unit.specs.declared.Place.TheVariants.{Command, PageRead, PageProgram, UnitProgram, BlockErase, EraseAll, IdCheck}
 use Rattle.unit.specs.Phases.{Kind, Position, position_of, inside}
-use Rattle.unit.specs.Phases.Kind.{page-read, page-program, unit-program, block-erase, erase-all, id-check}
+use Rattle.unit.specs.Phases.Kind.{page_read, page_program, unit_program, block_erase, all_erase, id_check}
 use Rattle.unit.specs.Phases.Position.{sleeping, commanding, within}
 
 pub position_inside : (k : Kind) (n : ℕ) → position_of (Awake (inside k n)) ≡ within k n
-position_inside page-read n = refl
-position_inside page-program n = refl
-position_inside unit-program n = refl
-position_inside block-erase n = refl
-position_inside erase-all n = refl
-position_inside id-check n = refl
+position_inside page_read n = refl
+position_inside page_program n = refl
+position_inside unit_program n = refl
+position_inside block_erase n = refl
+position_inside all_erase n = refl
+position_inside id_check n = refl
 
 abbrev phase_at : Position → Phase
 phase_at (sleeping n) = Asleep n

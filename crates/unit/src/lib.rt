@@ -1,4 +1,6 @@
 // The unit of document 01: its phase, registers, settings and collected bytes; how it begins; which records are in range.
+#![tactic(auto)]
+
 ghost use Rattle.std.specs.Prelude.{◌≡◌};
 ghost use Rattle.unit.specs.declared.Phase.TheVariants.{Awake};
 ghost use Rattle.unit.specs.Phases.{position_of};
@@ -7,7 +9,7 @@ ghost use Rattle.unit.specs.Range.{position_fits, size_alone, srd_fits, srd1_fit
 ghost use Rattle.unit.specs.Clauses.{FreshEnsures, IdleEnsures, OfEnsures, StateEnsures, InRangeEnsures, AtEnsures, AtCommandEnsures, WithSrdEnsures, WithSrd1Ensures, WithRateEnsures, WithMismatchesEnsures, IsOpenEnsures, IsStandingEnsures};
 
 // Awake at a command, or inside a packet: which one, and how many bytes have come since its command.
-#[derive(Drop)]
+#[derive(Clone, Copy)]
 pub enum Place {
     Command,
     PageRead(usize),
@@ -19,14 +21,14 @@ pub enum Place {
 }
 
 // Asleep with a count of zeros, or awake.
-#[derive(Drop)]
+#[derive(Clone, Copy)]
 pub enum Phase {
     Asleep(u8),
     Awake(Place),
 }
 
 // What bytes change: SRD, SRD1, the rate index, and the count of wrong ID checks since start.
-#[derive(Drop)]
+#[derive(Clone, Copy)]
 pub struct Registers {
     pub srd: u8,
     pub srd1: u8,
@@ -35,13 +37,13 @@ pub struct Registers {
 }
 
 // What start fixes for good.
-#[derive(Drop)]
+#[derive(Clone, Copy)]
 pub struct Settings {
     pub blank: bool,
     pub protection: u8,
 }
 
-#[derive(Drop)]
+#[derive(Clone, Copy)]
 pub struct Unit {
     pub phase: Phase,
     pub registers: Registers,
@@ -50,13 +52,13 @@ pub struct Unit {
 }
 
 // What a start is given beside the image.
-#[derive(Drop)]
+#[derive(Clone, Copy)]
 pub struct Inputs {
     pub protection: u8,
 }
 
 // What bytes change of a unit, its collected bytes apart.
-#[derive(Drop)]
+#[derive(Clone, Copy)]
 pub struct State {
     pub phase: Phase,
     pub registers: Registers,

@@ -1,4 +1,6 @@
 // The words that a workshop types to ask for a plan, and the numbers that it reads in the answer.
+#![tactic(auto)]
+
 ghost use Rattle.std.specs.Prelude.{◌≡◌};
 ghost use Rattle.words.specs.Numbers.{with_state, is_digit, whole_digit, decimal_digit, digit_in, after_point, read_byte, read_text};
 ghost use Rattle.words.specs.Words.{external_of, clock_in, clock_word, whole_rate, rate_in, rate_word};
@@ -7,7 +9,7 @@ ghost use Rattle.words.specs.Shown.{cut as cut_of, hundredths as hundredths_of, 
 use rates::Clock;
 
 // Where the reading of a number stands.
-#[derive(Drop)]
+#[derive(Clone, Copy)]
 enum State {
     Start,
     Whole,
@@ -18,7 +20,7 @@ enum State {
 }
 
 // A number without its point, the power of ten by which to divide it, and where its reading stands.
-#[derive(Drop)]
+#[derive(Clone, Copy)]
 struct Reading {
     number: u64,
     scale: u64,
@@ -26,7 +28,7 @@ struct Reading {
 }
 
 // What a word says of the clock.
-#[derive(Drop)]
+#[derive(Clone, Copy)]
 pub enum ClockWord {
     Given(Clock),
     TooLong,
@@ -34,7 +36,7 @@ pub enum ClockWord {
 }
 
 // What a word says of the wanted rate.
-#[derive(Drop)]
+#[derive(Clone, Copy)]
 pub enum RateWord {
     Given(u32),
     TooLong,
@@ -54,6 +56,7 @@ fn with_state(r: Reading, state: State) -> Reading
     }
 }
 
+#[tactic(auto, unfolding(crate::specs::Numbers::whole_digit))]
 fn whole_digit(r: Reading, d: u8) -> Reading
     ensures { result ≡ whole_digit r d }
 {
@@ -67,6 +70,7 @@ fn whole_digit(r: Reading, d: u8) -> Reading
     }
 }
 
+#[tactic(auto, unfolding(crate::specs::Numbers::decimal_digit))]
 fn decimal_digit(r: Reading, d: u8) -> Reading
     ensures { result ≡ decimal_digit r d }
 {
@@ -84,6 +88,7 @@ fn decimal_digit(r: Reading, d: u8) -> Reading
 }
 
 // The state is that of r: it stands beside it because a match wants a variable, here and below.
+#[tactic(auto, unfolding(crate::specs::Numbers::digit_in))]
 fn digit_in(state: State, r: Reading, d: u8) -> Reading
     ensures { result ≡ digit_in state r d }
 {
@@ -97,6 +102,7 @@ fn digit_in(state: State, r: Reading, d: u8) -> Reading
     }
 }
 
+#[tactic(auto, unfolding(crate::specs::Numbers::after_point))]
 fn after_point(state: State) -> State
     ensures { result ≡ after_point state }
 {
@@ -110,12 +116,14 @@ fn after_point(state: State) -> State
     }
 }
 
+#[tactic(auto, using(crate::proofs::Texts::digit_low, crate::proofs::Texts::digit_too_low))]
 fn is_digit(b: u8) -> bool
     ensures { result ≡ is_digit b }
 {
     b'0' <= b && b <= b'9'
 }
 
+#[tactic(auto, using(crate::proofs::Texts::digit_least, crate::proofs::Texts::digit_read, crate::proofs::Texts::point_read, crate::proofs::Texts::other_read))]
 fn read_byte(r: Reading, b: u8) -> Reading
     ensures { result ≡ read_byte r b }
 {
@@ -155,6 +163,7 @@ fn external(r: Reading) -> ClockWord
     ClockWord::Given(Clock::External(number / scale))
 }
 
+#[tactic(auto, unfolding(crate::specs::Words::clock_in))]
 fn clock_in(state: State, r: Reading) -> ClockWord
     ensures { result ≡ clock_in state r }
 {
@@ -184,6 +193,7 @@ pub fn clock(text: &[u8]) -> ClockWord
 }
 
 // What 32 bits cannot hold is told as the largest number that they hold.
+#[tactic(auto, unfolding(crate::specs::Words::whole_rate))]
 fn whole_rate(number: u64) -> RateWord
     ensures { result ≡ whole_rate number }
 {
@@ -194,6 +204,7 @@ fn whole_rate(number: u64) -> RateWord
     }
 }
 
+#[tactic(auto, unfolding(crate::specs::Words::rate_in))]
 fn rate_in(state: State, r: Reading) -> RateWord
     ensures { result ≡ rate_in state r }
 {
