@@ -1,10 +1,12 @@
 // Plans a batch of records (docs/CASES.md, "The format of plans"): standard input to standard output.
+#![tactic(auto)]
+
 ghost use Rattle.std.specs.Prelude.{◌≡◌, ◌<◌};
 ghost use Rattle.std.specs.Float.{binary64};
 ghost use Rattle.std.specs.Float.Ieee.{of_bits};
 
-use libc::{STDERR_FILENO, STDIN_FILENO, STDOUT_FILENO};
 use rates::Clock;
+use std::io::Read;
 
 // The bytes of a record and of an answer.
 const RECORD: usize = 13;
@@ -136,34 +138,39 @@ fn take_records(records: &[u8], count: usize, out: &mut [u8]) -> usize
     count
 }
 
-// The end of a batch that something is wrong with. A program has no exit status: the line on standard error says it.
-fn end(why: &[u8]) -> bool {
-    io::write_all(STDERR_FILENO, why);
+// The end of a batch that something is wrong with. The line on standard error says it, and the exit status does not.
+fn end(rt: &impl Eprint, why: &str) -> bool {
+    let _ = rt.eprintln(why);
     false
 }
 
 // Reads some records and writes their answers. Says whether there may be more.
-fn take_some(input: &mut [u8; INPUT], out: &mut [u8; OUTPUT]) -> bool {
-    let n = io::read_full(STDIN_FILENO, input);
+fn take_some(
+    rt: &(impl Print + Eprint),
+    records: &mut impl Read,
+    input: &mut [u8; INPUT],
+    out: &mut [u8; OUTPUT],
+) -> bool {
+    let n = system::fill(records, input);
     let count = n / RECORD;
     let done = take_records(input, count, out);
-    if !io::write_all(STDOUT_FILENO, slices::first(out, done * ANSWER)) {
-        return end(b"replan: standard output cannot be written\n");
+    if rt.write_all(slices::first(out, done * ANSWER)).is_err() {
+        return end(rt, "replan: standard output cannot be written");
     }
     if done < count || n % RECORD != 0 {
-        return end(b"replan: a record is not well formed\n");
+        return end(rt, "replan: a record is not well formed");
     }
     n == INPUT
 }
 
-// A proved loop has to end, and nothing says that the input does: so the loop counts its turns down, from a number that no batch uses up.
-fn main() {
+// A proved loop has to end, and nothing says that the input does: so it has as many turns as no batch uses up.
+fn main(rt: HostRuntime) {
+    let mut records = rt.stdin();
     let mut input = [0u8; INPUT];
     let mut out = [0u8; OUTPUT];
-    let mut on = true;
-    let mut turns = u64::MAX;
-    while turns > 0 && on {
-        on = take_some(&mut input, &mut out);
-        turns -= 1;
+    for _ in 0..u64::MAX {
+        if !take_some(&rt, &mut records, &mut input, &mut out) {
+            return;
+        }
     }
 }

@@ -34,6 +34,7 @@ fn make_image(case: &[u8], image: &mut [u8]) -> usize {
 
 // What a call answered, its area, and the image where the case is traced.
 fn tell(
+    rt: &impl Print,
     answer: Answer,
     area: &[u8],
     image: &[u8],
@@ -52,16 +53,17 @@ fn tell(
         registers.srd,
         registers.srd1,
     ];
-    let headed = out::emit(buffer, used, &head);
-    let said = out::emit(buffer, headed, area);
+    let headed = out::emit(rt, buffer, used, &head);
+    let said = out::emit(rt, buffer, headed, area);
     if trace {
-        out::emit(buffer, said, image)
+        out::emit(rt, buffer, said, image)
     } else {
         said
     }
 }
 
 fn byte_call(
+    rt: &impl Print,
     u: Unit,
     b: u8,
     fill: u8,
@@ -73,7 +75,7 @@ fn byte_call(
 ) -> Played {
     bytes::fill(area, fill);
     let answer = port::byte(u, image, area, b);
-    let waits = tell(answer, area, image, trace, buffer, used);
+    let waits = tell(rt, answer, area, image, trace, buffer, used);
     let next = answer.unit;
     Played {
         unit: next,
@@ -82,6 +84,7 @@ fn byte_call(
 }
 
 fn byte_calls(
+    rt: &impl Print,
     begin: Unit,
     given: &[u8],
     fill: u8,
@@ -98,13 +101,24 @@ fn byte_calls(
     let mut i = 0;
     while i < given.len() {
         let u = played.unit;
-        played = byte_call(u, given[i], fill, area, image, trace, buffer, played.used);
+        played = byte_call(
+            rt,
+            u,
+            given[i],
+            fill,
+            area,
+            image,
+            trace,
+            buffer,
+            played.used,
+        );
         i += 1;
     }
     played
 }
 
 fn run_call(
+    rt: &impl Print,
     u: Unit,
     given: &[u8],
     fill: u8,
@@ -116,7 +130,7 @@ fn run_call(
 ) -> Played {
     bytes::fill(area, fill);
     let answer = port::run(u, image, given, area);
-    let waits = tell(answer, area, image, trace, buffer, used);
+    let waits = tell(rt, answer, area, image, trace, buffer, used);
     let next = answer.unit;
     Played {
         unit: next,
@@ -126,6 +140,7 @@ fn run_call(
 
 // One group of calls, which stands at the front of `group`.
 fn group_calls(
+    rt: &impl Print,
     u: Unit,
     group: &[u8],
     area: &mut [u8],
@@ -138,14 +153,15 @@ fn group_calls(
     let fill = bytes::at(group, 3);
     let given = bytes::first(bytes::rest(group, 6), bytes::pair(group, 4));
     if bytes::at(group, 0) == 0 {
-        byte_calls(u, given, fill, lent, image, trace, buffer, used)
+        byte_calls(rt, u, given, fill, lent, image, trace, buffer, used)
     } else {
-        run_call(u, given, fill, lent, image, trace, buffer, used)
+        run_call(rt, u, given, fill, lent, image, trace, buffer, used)
     }
 }
 
 // All the groups, whose number stands at the front of `groups`.
 fn all_calls(
+    rt: &impl Print,
     begin: Unit,
     groups: &[u8],
     area: &mut [u8],
@@ -164,7 +180,7 @@ fn all_calls(
     while i < count {
         let group = bytes::rest(groups, place);
         let u = played.unit;
-        played = group_calls(u, group, area, image, trace, buffer, played.used);
+        played = group_calls(rt, u, group, area, image, trace, buffer, played.used);
         place += cases::group_size(group);
         i += 1;
     }
@@ -172,7 +188,7 @@ fn all_calls(
 }
 
 // The start call of mode 0 and its answer, or the unit that mode 1 gives.
-fn begin(case: &[u8], image: &[u8], buffer: &mut [u8], used: usize) -> Played {
+fn begin(rt: &impl Print, case: &[u8], image: &[u8], buffer: &mut [u8], used: usize) -> Played {
     if bytes::at(case, cases::MODE) == 1 {
         return Played {
             unit: record::read(bytes::rest(case, cases::RECORD)),
@@ -186,8 +202,8 @@ fn begin(case: &[u8], image: &[u8], buffer: &mut [u8], used: usize) -> Played {
         },
     );
     let u = started.unit;
-    let said = out::emit(buffer, used, &[started.refusal]);
-    let waits = out::emit(buffer, said, &record::write(u));
+    let said = out::emit(rt, buffer, used, &[started.refusal]);
+    let waits = out::emit(rt, buffer, said, &record::write(u));
     Played {
         unit: u,
         used: waits,
@@ -196,6 +212,7 @@ fn begin(case: &[u8], image: &[u8], buffer: &mut [u8], used: usize) -> Played {
 
 // The whole case. `room` holds the largest image, `area` the largest area.
 pub(crate) fn case(
+    rt: &impl Print,
     given: &[u8],
     room: &mut [u8],
     area: &mut [u8],
@@ -204,9 +221,11 @@ pub(crate) fn case(
 ) -> usize {
     let image = bytes::first_mut(room, bytes::pair(given, cases::SIZE));
     let groups = bytes::rest(given, make_image(given, image));
-    let begun = begin(given, image, buffer, used);
+    let begun = begin(rt, given, image, buffer, used);
     let trace = bytes::at(given, cases::TRACE) == 1;
-    let played = all_calls(begun.unit, groups, area, image, trace, buffer, begun.used);
-    let said = out::emit(buffer, played.used, &record::write(played.unit));
-    out::emit(buffer, said, image)
+    let played = all_calls(
+        rt, begun.unit, groups, area, image, trace, buffer, begun.used,
+    );
+    let said = out::emit(rt, buffer, played.used, &record::write(played.unit));
+    out::emit(rt, buffer, said, image)
 }

@@ -2,12 +2,20 @@
 //
 // What it decides stands in `live` and `port`, proved; here are the calls of the system, and a note at the third wrong ID. An image that a byte changed is on the disk before the next
 // byte is given: written to unit.img.new, synced, renamed over unit.img, and the folder synced. So a reply means that all before it is stored.
-use libc::{STDERR_FILENO, STDIN_FILENO, STDOUT_FILENO};
+#![tactic(auto)]
+
 use live::Given;
+use std::fs::{File, OpenFile};
+use std::io::{Read, Write};
+use std::rt::{Env, Files};
+use std::{fs, io};
 use unit::{Inputs, Unit};
 
 // The most bytes of one read.
 const CHUNK: usize = 512;
+
+// The most bytes of an argument.
+const WORD: usize = 4096;
 
 // Where the session stands: the unit, and whether it goes on.
 #[derive(Drop)]
@@ -17,67 +25,61 @@ struct Session {
 }
 
 // One line on standard error, and no success.
-fn say(line: &[u8]) -> bool {
-    io::write_all(STDERR_FILENO, line);
+fn say(rt: &impl Eprint, line: &str) -> bool {
+    let _ = rt.eprintln(line);
     false
 }
 
 // One line on standard error with the system's reason, and no success.
-fn fail(what: &[u8]) -> bool {
-    os::fail(what);
+fn fail(rt: &impl Eprint, what: &str, why: io::Error) -> bool {
+    system::complain(rt, what, why);
     false
 }
 
 // Writes the image to a new file, over what a killed run left there, and waits until it is on the disk.
-fn write_new(image: &[u8]) -> bool {
-    let fd = os::open_overwrite(b"unit.img.new");
-    if fd < 0 {
-        return fail(b"serve: unit.img.new: open");
+fn write_new(rt: &(impl Files + Eprint), image: &[u8]) -> bool {
+    let mut file = match File::create(rt, "unit.img.new") {
+        Ok(file) => file,
+        Err(e) => return fail(rt, "serve: unit.img.new: open", e),
+    };
+    if let Err(e) = file.write_all(image) {
+        return fail(rt, "serve: unit.img.new: write", e);
     }
-    if !io::write_all(fd, image) {
-        return fail(b"serve: unit.img.new: write");
-    }
-    if libc::fsync(fd) < 0 {
-        return fail(b"serve: unit.img.new: fsync");
-    }
-    if libc::close(fd) < 0 {
-        return fail(b"serve: unit.img.new: close");
+    if let Err(e) = file.sync_all() {
+        return fail(rt, "serve: unit.img.new: fsync", e);
     }
     true
 }
 
 // Waits until the folder's names are on the disk.
-fn sync_folder() -> bool {
-    let fd = os::open_read(b".");
-    if fd < 0 {
-        return fail(b"serve: the folder: open");
-    }
-    if libc::fsync(fd) < 0 {
-        return fail(b"serve: the folder: fsync");
-    }
-    if libc::close(fd) < 0 {
-        return fail(b"serve: the folder: close");
+fn sync_folder(rt: &(impl Files + Eprint)) -> bool {
+    let folder = match File::open(rt, ".") {
+        Ok(folder) => folder,
+        Err(e) => return fail(rt, "serve: the folder: open", e),
+    };
+    if let Err(e) = folder.sync_all() {
+        return fail(rt, "serve: the folder: fsync", e);
     }
     true
 }
 
 // Makes the image the one in unit.img, whole or not at all.
-fn save(image: &[u8]) -> bool {
-    if !write_new(image) {
+fn save(rt: &(impl Files + Eprint), image: &[u8]) -> bool {
+    if !write_new(rt, image) {
         return false;
     }
-    if os::rename(b"unit.img.new", b"unit.img") < 0 {
-        return fail(b"serve: unit.img: rename");
+    if let Err(e) = fs::rename(rt, "unit.img.new", "unit.img") {
+        return fail(rt, "serve: unit.img: rename", e);
     }
-    sync_folder()
+    sync_folder(rt)
 }
 
 // Saves the image where it is not the stored one.
-fn store(stored: &mut [u8], image: &[u8], changed: bool) -> bool {
+fn store(rt: &(impl Files + Eprint), stored: &mut [u8], image: &[u8], changed: bool) -> bool {
     if !changed {
         return true;
     }
-    if !save(image) {
+    if !save(rt, image) {
         return false;
     }
     slices::copy(stored, image);
@@ -85,91 +87,118 @@ fn store(stored: &mut [u8], image: &[u8], changed: bool) -> bool {
 }
 
 // Answers on standard output.
-fn answer(reply: &[u8]) -> bool {
-    if !io::write_all(STDOUT_FILENO, reply) {
-        return fail(b"serve: standard output");
+fn answer(rt: &(impl Print + Eprint), reply: &[u8]) -> bool {
+    if let Err(e) = rt.write_all(reply) {
+        return fail(rt, "serve: standard output", e);
     }
     true
 }
 
 // A note on standard error at the byte that ends the third wrong ID packet: the workshop's end sees only a mismatch. The session goes on.
-fn tell_lock(before: u8, after: u8) {
+fn tell_lock(rt: &impl Eprint, before: u8, after: u8) {
     if before < Unit::MAX_MISMATCHES && after == Unit::MAX_MISMATCHES {
-        io::write_all(
-            STDERR_FILENO,
-            b"serve: note: three wrong IDs, the port stays shut until serve is started again\n",
+        say(
+            rt,
+            "serve: note: three wrong IDs, the port stays shut until serve is started again",
         );
     }
 }
 
 // A byte: what it leads to is stored before it is answered, and answered before the next one.
-fn take_byte(u: Unit, image: &mut [u8], stored: &mut [u8], b: u8) -> Session {
+fn take_byte(
+    rt: &(impl Files + Print + Eprint),
+    u: Unit,
+    image: &mut [u8],
+    stored: &mut [u8],
+    b: u8,
+) -> Session {
     let mut area = [0u8; 256];
     let turn = live::give(u, image, stored, &mut area, b);
     let got = turn.answer;
     let next = got.unit;
     if got.refusal != 0 {
-        say(b"serve: the port refuses a byte\n");
+        say(rt, "serve: the port refuses a byte");
         return Session {
             unit: next,
             on: false,
         };
     }
-    tell_lock(u.registers.mismatches, next.registers.mismatches);
-    if !store(stored, image, turn.changed) {
+    tell_lock(rt, u.registers.mismatches, next.registers.mismatches);
+    if !store(rt, stored, image, turn.changed) {
         return Session {
             unit: next,
             on: false,
         };
     }
-    let on = answer(slices::first(&area, got.reply_len));
+    let on = answer(rt, slices::first(&area, got.reply_len));
     Session { unit: next, on: on }
 }
 
 // The bytes of one read, one by one.
-fn take_bytes(begin: Session, image: &mut [u8], stored: &mut [u8], bytes: &[u8]) -> Session {
+fn take_bytes(
+    rt: &(impl Files + Print + Eprint),
+    begin: Session,
+    image: &mut [u8],
+    stored: &mut [u8],
+    bytes: &[u8],
+) -> Session {
     let mut session = begin;
     let mut i = 0;
     while i < bytes.len() {
         if !session.on {
             return session;
         }
-        session = take_byte(session.unit, image, stored, bytes[i]);
+        session = take_byte(rt, session.unit, image, stored, bytes[i]);
         i += 1;
     }
     session
 }
 
 // Reads what is there, and takes it; at the end of the input the session is over.
-fn take_some(session: Session, image: &mut [u8], stored: &mut [u8]) -> Session {
+fn take_some(
+    rt: &(impl Files + Print + Eprint),
+    line: &mut impl Read,
+    session: Session,
+    image: &mut [u8],
+    stored: &mut [u8],
+) -> Session {
     let mut buffer = [0u8; CHUNK];
-    let got = libc::read(STDIN_FILENO, &mut buffer);
-    if got < 0 {
-        fail(b"serve: standard input");
-    }
-    if got <= 0 {
+    let n = match line.read(&mut buffer) {
+        Ok(n) => n,
+        Err(e) => {
+            fail(rt, "serve: standard input", e);
+            0
+        }
+    };
+    if n == 0 {
         let unit = session.unit;
         return Session {
             unit: unit,
             on: false,
         };
     }
-    let n = io::count(got, &buffer);
-    take_bytes(session, image, stored, &buffer[..n])
+    take_bytes(rt, session, image, stored, &buffer[..n])
 }
 
-// A proved loop has to end, and nothing says that the input does: it counts its turns down from a number that no run uses up.
-fn take_all(begin: Session, image: &mut [u8], stored: &mut [u8]) {
+// A proved loop has to end, and nothing says that the input does: it has as many turns as no run uses up.
+fn take_all(
+    rt: &(impl Files + Print + Eprint),
+    line: &mut impl Read,
+    begin: Session,
+    image: &mut [u8],
+    stored: &mut [u8],
+) {
     let mut session = begin;
-    let mut turns = u64::MAX;
-    while turns > 0 && session.on {
-        session = take_some(session, image, stored);
-        turns -= 1;
+    for _ in 0..u64::MAX {
+        if !session.on {
+            return;
+        }
+        session = take_some(rt, line, session, image, stored);
     }
 }
 
 // The session of an image, from its start to the end of the input.
-fn run(image: &mut [u8], protection: u8) {
+fn run(rt: &(impl Files + Print + Eprint), line: &mut impl Read, image: &mut [u8], protection: u8) {
     let started = port::start(
         image,
         Inputs {
@@ -177,11 +206,11 @@ fn run(image: &mut [u8], protection: u8) {
         },
     );
     if started.refusal == 1 {
-        say(b"serve: unit.img does not have 20480 bytes\n");
+        say(rt, "serve: unit.img does not have 20480 bytes");
         return;
     }
     if started.refusal != 0 {
-        say(b"serve: the protection is over 15\n");
+        say(rt, "serve: the protection is over 15");
         return;
     }
     let mut stored = [0u8; flash::IMAGE];
@@ -191,41 +220,50 @@ fn run(image: &mut [u8], protection: u8) {
         unit: unit,
         on: true,
     };
-    take_all(begin, image, &mut stored);
+    take_all(rt, line, begin, image, &mut stored);
 }
 
 // Reads the image, a byte more than it may have.
-fn load(protection: u8) {
-    let fd = os::open_read(b"unit.img");
-    if fd < 0 {
-        fail(b"serve: unit.img");
-        return;
-    }
+fn load(rt: &(impl Files + Print + Eprint), line: &mut impl Read, protection: u8) {
+    let mut file = match File::open(rt, "unit.img") {
+        Ok(file) => file,
+        Err(e) => {
+            fail(rt, "serve: unit.img", e);
+            return;
+        }
+    };
     let mut buffer = [0u8; flash::IMAGE + 1];
-    let n = io::read_full(fd, &mut buffer);
-    libc::close(fd);
-    run(&mut buffer[..n], protection);
+    let n = system::fill(&mut file, &mut buffer);
+    drop(file);
+    run(rt, line, &mut buffer[..n], protection);
 }
 
-fn main() {
-    let words = os::arg_count();
+fn main(rt: HostRuntime) {
+    let words = system::word_count(&rt);
     if words < 2 {
-        load(0);
+        load(&rt, &mut rt.stdin(), 0);
         return;
     }
     if 2 < words {
-        say(b"serve: usage: serve [PROTECTION]\n");
+        say(&rt, "serve: usage: serve [PROTECTION]");
         return;
     }
-    let mut text = io::buffer();
-    let n = os::arg(1, &mut text);
+    let mut text = [0u8; WORD];
+    let n = match rt.arg(1, &mut text) {
+        Ok(n) => n,
+        // A word that is too long for its room is taken as none, which is no number.
+        Err(_) => 0,
+    };
     match live::protection(&text[..n]) {
-        Given::Number(protection) => load(protection),
+        Given::Number(protection) => load(&rt, &mut rt.stdin(), protection),
         Given::TooLarge => {
-            say(b"serve: the protection is over 15\n");
+            say(&rt, "serve: the protection is over 15");
         }
         Given::NotANumber => {
-            say(b"serve: the protection is not a number in decimal digits\n");
+            say(
+                &rt,
+                "serve: the protection is not a number in decimal digits",
+            );
         }
     }
 }
