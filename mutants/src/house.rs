@@ -25,12 +25,13 @@ fn told<T>(path: &Path, result: std::io::Result<T>) -> Result<T, String> {
     result.map_err(|e| format!("{}: {e}", path.display()))
 }
 
-/// Copies files and folders, as cp does.
-pub fn copy(from: &Path, to: &Path) -> Result<(), String> {
-    let status = told(
-        from,
-        Command::new("cp").arg("-r").arg(from).arg(to).status(),
-    )?;
+/// A copy of what rt needs: the crates, and what it has kept of them.
+pub fn whole(root: &Path, from: &Path, to: &Path) -> Result<(), String> {
+    if to.exists() {
+        told(to, std::fs::remove_dir_all(to))?;
+    }
+    let tool = root.join("tools/copy-crates");
+    let status = told(&tool, Command::new(&tool).arg(from).arg(to).status())?;
     if status.success() {
         Ok(())
     } else {
@@ -38,33 +39,14 @@ pub fn copy(from: &Path, to: &Path) -> Result<(), String> {
     }
 }
 
-/// A copy of what rt needs: the crates, and what it has proved of them.
-pub fn whole(from: &Path, to: &Path) -> Result<(), String> {
-    if to.exists() {
-        told(to, std::fs::remove_dir_all(to))?;
-    }
-    told(to, std::fs::create_dir_all(to.join("target")))?;
-    for part in [
-        "crates",
-        "crates.txt",
-        "target/rlib",
-        "target/stamp",
-        "target/log",
-    ] {
-        copy(&from.join(part), &to.join(part))?;
-    }
-    Ok(())
-}
-
-/// rt's check of a crate in a folder; the log stays in check.log.
-pub fn check(folder: &Path, name: &str) -> Result<bool, String> {
-    let log = folder.join("check.log");
+/// rt's check of a crate of a copy; the log stays in check.log.
+pub fn check(copy: &Path, name: &str) -> Result<bool, String> {
+    let log = copy.join("check.log");
     let out = told(&log, std::fs::File::create(&log))?;
     let errors = told(&log, out.try_clone())?;
     let status = Command::new("rt")
-        .args(["check", name])
-        .env("RT_CUT", "0")
-        .current_dir(folder)
+        .args(["check", "--jobs", "1"])
+        .current_dir(copy.join("crates").join(name))
         .stdout(out)
         .stderr(errors)
         .status()
@@ -80,10 +62,11 @@ fn without_functions(text: &str) -> String {
     while at < all.len() {
         let line = all[at].1;
         if begins_function(line, None) {
-            while kept
-                .last()
-                .is_some_and(|last| last.trim_start().starts_with("//"))
-            {
+            while kept.last().is_some_and(|last| {
+                ["//", "#["]
+                    .iter()
+                    .any(|mark| last.trim_start().starts_with(mark))
+            }) {
                 kept.pop();
             }
             let end = |l: &str| indent(l) == indent(line) && l.trim_start() == "}";
@@ -108,14 +91,12 @@ fn without_functions(text: &str) -> String {
 
 /// A house in which only laws, tables and theorems are proved, and where they are.
 pub fn laws_only(root: &Path, to: &Path) -> Result<(), String> {
-    told(to, std::fs::create_dir_all(to.join("crates")))?;
+    whole(root, root, to)?;
     for name in CRATES {
         let folder = to.join("crates").join(name);
-        copy(&root.join("crates").join(name), &folder)?;
         let source = folder.join("src/lib.rt");
-        if let Ok(text) = std::fs::read_to_string(&source) {
-            told(&source, std::fs::write(&source, without_functions(&text)))?;
-        }
+        let text = told(&source, std::fs::read_to_string(&source))?;
+        told(&source, std::fs::write(&source, without_functions(&text)))?;
         // a folder of proofs belongs to a function
         let proofs = folder.join("proofs");
         for entry in told(&proofs, std::fs::read_dir(&proofs))? {

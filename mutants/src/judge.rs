@@ -26,52 +26,98 @@ impl Verdict {
     }
 }
 
-/// The place of an error, without the folder of the copy: crates/..:LINE.
-fn place(line: &str) -> String {
-    let line = line.split(" error: ").next().unwrap_or(line);
-    let line = line.split(": no proof").next().unwrap_or(line);
-    let start = line.find("crates/").unwrap_or(0);
-    let mut parts = line[start..].trim_end_matches(':').split(':');
+/// The place of an error or of an open goal, by the crate that was checked: crates/..:LINE.
+fn place(name: &str, line: &str) -> String {
+    let line = line.strip_prefix("note: ").unwrap_or(line);
+    let mut parts = line.split(':');
     let file = parts.next().unwrap_or_default();
     match parts.next() {
         Some(number) if !number.is_empty() && number.bytes().all(|b| b.is_ascii_digit()) => {
-            format!("{file}:{number}")
+            format!("crates/{name}/{}:{number}", file.trim_start_matches("./"))
         }
-        _ => line[start..].to_string(),
+        _ => line.to_string(),
     }
 }
 
+/// The crate that a log judges: a library that did not build, or else the one that the check was asked for.
+fn judged(log: &str, asked: &str) -> String {
+    log.lines()
+        .find_map(|line| line.strip_prefix("rt: the library ")?.split(' ').next())
+        .unwrap_or(asked)
+        .to_string()
+}
+
 fn tried(root: &Path, from: &Path, room: &Path, change: &Change) -> Result<Verdict, String> {
-    house::whole(from, room)?;
+    house::whole(root, from, room)?;
     let crates = room.join("crates");
     let text = change.applied(&crates)?;
     let path = change.path(&crates);
     std::fs::write(&path, text).map_err(|e| format!("{}: {e}", path.display()))?;
-    if house::check(
-        room,
-        if change.laws_only {
-            house::judge_of(&change.name)
-        } else {
-            &change.name
-        },
-    )? {
+    let asked = if change.laws_only {
+        house::judge_of(&change.name)
+    } else {
+        &change.name
+    };
+    if house::check(room, asked)? {
         return Ok(Verdict::Survived);
     }
-    let said = Command::new("sh")
-        .arg(root.join("tools/verdict"))
-        .arg(room.join("check.log"))
+    let mut said = verdict(root, room, asked)?;
+    // where only names of goals no longer fit, once more, with the names that the changed code gives them
+    if said.word == "unfit" && !change.laws_only && renamed(root, room, change)? {
+        if house::check(room, asked)? {
+            return Ok(Verdict::Survived);
+        }
+        said = verdict(root, room, asked)?;
+    }
+    Ok(match said.word.as_str() {
+        "fact" => Verdict::Fact(said.place),
+        "none" => Verdict::Untried("rt failed without an error of a proof".into()),
+        _ => {
+            let (shown, differs) = run(root, room, change)?;
+            Verdict::Unfit(format!("{}; {shown}", said.place), differs)
+        }
+    })
+}
+
+/// What tools/verdict says of a log.
+struct Said {
+    word: String,
+    place: String,
+}
+
+fn verdict(root: &Path, room: &Path, asked: &str) -> Result<Said, String> {
+    let log = room.join("check.log");
+    let text = std::fs::read(&log).map_err(|e| format!("{}: {e}", log.display()))?;
+    let name = judged(&String::from_utf8_lossy(&text), asked);
+    let said = Command::new(root.join("tools/verdict"))
+        .arg(&log)
         .output()
         .map_err(|e| format!("tools/verdict: {e}"))?;
     let said = String::from_utf8_lossy(&said.stdout).trim().to_string();
     let (word, line) = said.split_once(' ').unwrap_or((&said, ""));
-    Ok(match word {
-        "fact" => Verdict::Fact(place(line)),
-        "none" => Verdict::Untried("rt failed without an error of a proof".into()),
-        _ => {
-            let (shown, differs) = run(root, room, change)?;
-            Verdict::Unfit(format!("{}; {shown}", place(line)), differs)
-        }
+    Ok(Said {
+        word: word.to_string(),
+        place: place(&name, line),
     })
+}
+
+/// Gives the proof of the changed function the names that its goals now have.
+fn renamed(root: &Path, room: &Path, change: &Change) -> Result<bool, String> {
+    let module = Path::new(&change.file)
+        .file_stem()
+        .map_or("lib".into(), |stem| stem.to_string_lossy());
+    let item = match &*module {
+        "lib" | "main" => change.item.clone(),
+        _ => format!("{module}::{}", change.item),
+    };
+    Command::new(root.join("tools/verdict"))
+        .arg("--rename")
+        .arg(room.join("crates").join(&change.name))
+        .arg(room.join("check.log"))
+        .args([&change.name, &item])
+        .status()
+        .map(|status| status.success())
+        .map_err(|e| format!("tools/verdict: {e}"))
 }
 
 /// What a run of the changed code shows where no fact refused it, and whether it differs from the second program.

@@ -15,8 +15,8 @@ use std::path::Path;
 use std::sync::atomic::{AtomicUsize, Ordering};
 use std::sync::Mutex;
 
-/// How many changes are tried at a time.
-const WORKERS: usize = 2;
+/// The most changes that are tried at a time.
+const WORKERS: usize = 4;
 
 /// The changes of both lists; each can be made.
 fn read(root: &Path) -> Result<Vec<Change>, String> {
@@ -41,8 +41,9 @@ fn run(root: &Path, scratch: &Path, words: &[String]) -> Result<bool, String> {
     }
     let next = AtomicUsize::new(0);
     let results = Mutex::new(Vec::new());
+    let workers = std::thread::available_parallelism().map_or(1, |n| n.get().min(WORKERS));
     std::thread::scope(|scope| {
-        for worker in 0..WORKERS {
+        for worker in 0..workers {
             let (next, results, changes, laws) = (&next, &results, &changes, &laws);
             scope.spawn(move || loop {
                 let at = next.fetch_add(1, Ordering::SeqCst);
