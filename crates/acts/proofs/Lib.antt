@@ -1,4 +1,1 @@
-pub mod EffectLaws
-pub mod FrontLaws
-pub mod IdLaws
 pub mod Pinned

@@ -13,10 +13,7 @@ use unit::{Registers, Settings, State, Unit};
 fn reported(registers: Registers, good: bool, bad: u8) -> Registers
     ensures { result ≡ with_srd registers (cond good 0x80 bad) }
 {
-    if good {
-        return registers.with_srd(Unit::READY);
-    }
-    registers.with_srd(bad)
+    registers.with_srd(if good { Unit::READY } else { bad })
 }
 
 // The low 16 address bits and the size are at most so many.
@@ -24,22 +21,19 @@ fn reaches(address: u32, size: usize, most: usize) -> bool
     ensures { result ≡ leb (address % 65536 + size) most }
 {
     let low = (address % 65536) as usize;
-    if most < low {
-        return false;
-    }
-    size <= most - low
+    low <= most && size <= most - low
 }
 
+// What it is given stands apart, as in `program`.
 fn write(image: &mut [u8], protection: u8, address: u32, new: &[u8], most: usize) -> bool
     ensures { written image.new result ≡ reaching most protection image.old address new.now }
 {
-    if !reaches(address, new.len(), most) {
-        return false;
-    }
-    flash::program(image, protection, address, new)
+    reaches(address, new.len(), most) && flash::program(image, protection, address, new)
 }
 
 // A program of the bytes `new` from an address on; the low 16 address bits and their number may be at most `most`.
+// `s`, `settings` and `image` stand apart here and in the erases: `acts_program_pinned` and its like speak of each.
+#[tactic(auto, unfolding(protocol::specs::Endings::programs, unit::specs::Model::ended))]
 pub fn program(
     s: State,
     settings: Settings,
@@ -50,83 +44,77 @@ pub fn program(
 ) -> Registers
     ensures { ProgramEnsures s settings image.old address new.now most result image.new }
 {
-    let registers = s.registers;
-    if registers.is_standing() {
-        return registers;
+    if s.registers.is_standing() {
+        return s.registers;
     }
     let good = write(image, settings.protection, address, new, most);
-    reported(registers, good, Unit::READY + Unit::PROGRAM_ERROR)
+    reported(s.registers, good, Unit::READY + Unit::PROGRAM_ERROR)
 }
 
 // An erase is carried out: its confirm byte is D0, and no error stands.
+#[tactic(auto, unfolding(crate::specs::Clauses::carries))]
 fn is_carried(registers: Registers, confirm: u8) -> bool
     ensures { result ≡ carries registers confirm }
 {
-    if confirm == 0xD0 {
-        return !registers.is_standing();
-    }
-    false
+    confirm == 0xD0 && !registers.is_standing()
 }
 
 // The registers after an erase that is not carried out.
+#[tactic(auto, unfolding(crate::specs::Clauses::unconfirmed))]
 fn not_carried(registers: Registers, confirm: u8) -> Registers
     ensures { result ≡ unconfirmed registers confirm }
 {
-    if confirm == 0xFF {
-        return registers;
-    }
-    if registers.is_standing() {
+    if confirm == 0xFF || registers.is_standing() {
         return registers;
     }
     registers.with_srd(Unit::READY + Unit::ERASE_ERROR + Unit::PROGRAM_ERROR)
 }
 
 // An erase of the block of an address, with this confirm byte.
+#[tactic(auto, unfolding(protocol::specs::Endings::erases, unit::specs::Model::ended, crate::specs::Clauses::carries, crate::specs::Clauses::unconfirmed))]
 pub fn erase(s: State, settings: Settings, image: &mut [u8], address: u32, confirm: u8) -> Registers
     ensures { EraseEnsures s settings image.old address confirm result image.new }
 {
-    let registers = s.registers;
-    if is_carried(registers, confirm) {
+    if is_carried(s.registers, confirm) {
         let good = flash::erase(image, settings.protection, address);
-        return reported(registers, good, Unit::READY + Unit::ERASE_ERROR);
+        return reported(s.registers, good, Unit::READY + Unit::ERASE_ERROR);
     }
-    not_carried(registers, confirm)
+    not_carried(s.registers, confirm)
 }
 
 // An erase of all blocks, with this confirm byte.
+#[tactic(auto, unfolding(protocol::specs::Endings::erases, unit::specs::Model::ended, crate::specs::Clauses::carries, crate::specs::Clauses::unconfirmed))]
 pub fn erase_all(s: State, settings: Settings, image: &mut [u8], confirm: u8) -> Registers
     ensures { EraseAllEnsures s settings image.old confirm result image.new }
 {
-    let registers = s.registers;
-    if is_carried(registers, confirm) {
+    if is_carried(s.registers, confirm) {
         flash::erase_all(image, settings.protection);
-        return registers.with_srd(Unit::READY);
+        return s.registers.with_srd(Unit::READY);
     }
-    not_carried(registers, confirm)
+    not_carried(s.registers, confirm)
 }
 
 // What followed F5 is what follows it in the right ID packet.
+#[tactic(auto, unfolding(protocol::specs::Endings::is_right, protocol::specs::Endings::right_id))]
 fn is_right(image: &[u8], xs: &[u8]) -> bool
     ensures { result ≡ is_right image.now xs.now }
 {
-    let id = flash::id(image);
-    let right = [
-        0xDF, 0xFF, 0x00, 0x07, id[0], id[1], id[2], id[3], id[4], id[5], id[6],
-    ];
-    slices::is_same(xs, &right)
+    match xs {
+        [0xDF, 0xFF, 0x00, 0x07, id @ ..] => slices::is_same(id, &flash::id(image)),
+        _ => false,
+    }
 }
 
 // The count of wrong ID checks after one more, of a unit that did not start blank.
+#[tactic(auto, unfolding(protocol::specs::Endings::counted))]
 fn one_more(wrong: u8) -> u8
     ensures { result ≡ counted false wrong false }
 {
-    if wrong < Unit::MAX_MISMATCHES {
-        return wrong + 1;
-    }
-    Unit::MAX_MISMATCHES
+    wrong.saturating_add(1).min(Unit::MAX_MISMATCHES)
 }
 
 // The registers after the right ID packet, of a unit that did not start blank: it opens, unless three wrong ones have locked it.
+#[tactic(auto, unfolding(protocol::specs::Endings::after_check, protocol::specs::Endings::judged, protocol::specs::Endings::counted))]
 fn matched(registers: Registers) -> Registers
     ensures { result ≡ after_check false registers true }
 {
@@ -137,15 +125,16 @@ fn matched(registers: Registers) -> Registers
 }
 
 // The registers after any other ID packet, of such a unit: it closes, and counts.
+#[tactic(auto, unfolding(protocol::specs::Endings::after_check, protocol::specs::Endings::judged))]
 fn mismatched(registers: Registers) -> Registers
     ensures { result ≡ after_check false registers false }
 {
     let wrong = one_more(registers.mismatches);
-    let closed = registers.with_srd1(Unit::MISMATCH);
-    closed.with_mismatches(wrong)
+    registers.with_srd1(Unit::MISMATCH).with_mismatches(wrong)
 }
 
 // An ID check whose bytes after F5 are `xs`.
+#[tactic(auto, unfolding(protocol::specs::Endings::after_check, protocol::specs::Endings::judged, protocol::specs::Endings::counted))]
 pub fn check_id(registers: Registers, settings: Settings, image: &[u8], xs: &[u8]) -> Registers
     ensures { CheckIdEnsures registers settings image.now xs.now result }
 {
@@ -159,14 +148,12 @@ pub fn check_id(registers: Registers, settings: Settings, image: &[u8], xs: &[u8
 }
 
 // A page at the front of the reply area, or 256 bytes FF for an outside one.
+#[tactic(auto, unfolding(protocol::specs::Endings::page_reply))]
 pub fn show_page(image: &[u8], reply: &mut [u8], mid: u8, high: u8)
     ensures { ShowPageEnsures image.now reply.old mid high reply.new }
 {
-    let page = flash::page(image, mid, high);
-    if page.len() == 0 {
-        let blank = [0xFFu8; 256];
-        slices::copy(reply, &blank);
-    } else {
-        slices::copy(reply, page);
+    match flash::page(image, mid, high) {
+        [] => slices::copy(reply, &[0xFF; 256]),
+        page => slices::copy(reply, page),
     }
 }

@@ -8,7 +8,7 @@ use mathlib.Core.List.{List, ◌∷◌}
 use lib.ListN.{length, get_or}
 use lib.Seq.{ext_get_or}
 use Rattle.flash.specs.Blocks.{part}
-use Rattle.flash.proofs.Places.{block_of_place}
+use Rattle.flash.proofs.Places.{block_of_place, one_spot}
 use Rattle.demands.specs.Flash.{InBlock, Address, Unprotected}
 use Rattle.demands.specs.Changes.{Programmed, Erased, Programs, Permitted, Leaves, Carries}
 use Rattle.demands.specs.Changes.Programs.{page, bytes}
@@ -72,7 +72,7 @@ module _ (img : List ℕ) (size : length img ≡ 20480) (l m : List ℕ) where
   one_left (block {mid} {high} {i} {k} d f) (block {i = j} {k = n} e g) x y =
       let a = (address_is (256 * mid + 65536 * high) i k).0 d in
       let b = (address_is (256 * mid + 65536 * high) j n).0 e in
-      let z : j ≡ i = cc in
+      let z : j ≡ i = (one_spot b a).0 in
       one_erased (λ (x : ℕ). x ≡ i) (λ x. ℕ_discrete x i) x (subst (λ (y : ℕ). Erased (λ (x : ℕ). x ≡ y) img m) z y)
   one_left {p} all all x y = one_erased (Unprotected p) (λ i. ℕ_discrete (p / 2 ^ i % 2) 0) x y
 

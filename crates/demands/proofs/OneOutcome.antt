@@ -6,6 +6,7 @@ use mathlib.Core.Bool.{false≢true}
 use mathlib.Core.Path.{◌≡◌, refl, ap, sym, ◌∙◌, subst}
 use mathlib.Core.List.{List}
 use lib.ListN.{length, take, drop}
+use Rattle.flash.proofs.Places.{one_spot}
 use Rattle.unit.specs.declared.Unit.{Unit as Port}
 use Rattle.unit.specs.declared.Registers.{Registers}
 use Rattle.demands.specs.Record.{srd_becomes}
@@ -27,10 +28,7 @@ use Rattle.demands.proofs.OneEffect.{one_programmed, one_erased}
 
 -- an address has one block and one place
 one_place : (a i j k n : ℕ) → Address a i k → Address a j n → (i ≡ j) × (k ≡ n)
-one_place a i j k n d e =
-    let x = (address_is a i k).0 d in
-    let y = (address_is a j n).0 e in
-    (cc, cc)
+one_place a i j k n d e = one_spot ((address_is a i k).0 d) ((address_is a j n).0 e)
 
 one_page : {img : List ℕ} {a : ℕ} {s t : List ℕ} → Page img a s → Page img a t → s ≡ t
 one_page {img} {a} (inside {i} {k} d) (inside {i = j} {k = n} e) = ap (λ (x : ℕ). take 256 (drop x img)) (one_place a i j k n d e).1

@@ -2,9 +2,10 @@
 -- An outcome is the result; where a call also leaves an image or an area, all of them together.
 use Prim.Native.Nat.{ℕ}
 use mathlib.Core.Bool.{Bool}
-use mathlib.Core.Path.{◌≡◌, sym, ◌∙◌}
+use mathlib.Core.Path.{◌≡◌, ap, ap₂, sym, ◌∙◌}
 use mathlib.Core.List.{List}
-use Rattle.flash.specs.declared.Found.{Found}
+use Rattle.std.specs.Prelude.{Option, Result}
+use Rattle.flash.specs.declared.Spot.{Spot}
 use Rattle.flash.specs.Image.{Written}
 use Rattle.flash.specs.Clauses.{BlockOfEnsures, PageAddressEnsures, PageEnsures, IdEnsures, BlankEnsures, ProgramEnsures, EraseEnsures, EraseAllEnsures}
 use Rattle.unit.specs.declared.Unit.{Unit as Port}
@@ -14,8 +15,11 @@ use Rattle.unit.specs.declared.State.{State}
 use Rattle.unit.specs.declared.Inputs.{Inputs}
 use Rattle.unit.specs.declared.Phase.{Phase}
 use Rattle.unit.specs.Clauses.{FreshEnsures, IdleEnsures, OfEnsures, StateEnsures, InRangeEnsures, AtEnsures, AtCommandEnsures, WithSrdEnsures, WithSrd1Ensures, WithRateEnsures, WithMismatchesEnsures, IsOpenEnsures, IsStandingEnsures}
-use Rattle.protocol.specs.declared.Started.{Started}
-use Rattle.protocol.specs.Calls.{Left, StartEnsures, ByteEnsures, RunEnsures}
+use Rattle.protocol.specs.declared.Answer.{Answer}
+use Rattle.protocol.specs.declared.Refused.{Refused}
+use Rattle.protocol.specs.declared.Refusal.{Refusal}
+use Rattle.protocol.specs.Calls.{Started, Left, left, number_of, started, numbered, StartEnsures, ByteEnsures, RunEnsures}
+use Rattle.protocol.proofs.Numbers.{started_alone, numbered_alone}
 
 -- no second outcome satisfies P
 abbrev pub Pins : {A : Type 0} → (A → Type 0) → Type 0
@@ -50,7 +54,7 @@ module _ (image : List ℕ) where
 pub flash_page_address_pinned : (mid high : ℕ) → Pins (λ (r : ℕ). PageAddressEnsures mid high r)
 flash_page_address_pinned mid high = pinned _
 
-pub flash_block_of_pinned : (address : ℕ) → Pins (λ (r : Found). BlockOfEnsures address r)
+pub flash_block_of_pinned : (address : ℕ) → Pins (λ (r : Option Spot). BlockOfEnsures address r)
 flash_block_of_pinned address = pinned _
 
 -- unit: Unit::fresh, Unit::idle, Unit::of, Unit::state, Unit::in_range
@@ -105,3 +109,24 @@ port_byte_pinned u image area b = pinned _
 
 pub port_run_pinned : (u : Port) (image area bytes : List ℕ) → Pins (λ (l : Left). RunEnsures u image area bytes l.answer l.image l.area)
 port_run_pinned u image area bytes = pinned _
+
+pub protocol_refusal_number_pinned : (refusal : Refusal) → Pins (λ (n : ℕ). n ≡ number_of refusal)
+protocol_refusal_number_pinned refusal = pinned _
+
+-- and their results, which their numbers and values tell: start's, and those of byte and run with the image and the reply area together
+pub port_start_result_pinned : (image : List ℕ) (inputs : Inputs) → Pins (λ (r : Result Port Refused). StartEnsures image inputs (started r))
+port_start_result_pinned image inputs x y p q = started_alone x y (p ∙ sym q)
+
+-- a result, an image and an area
+abbrev pub Leaving : Type 0
+Leaving = Result Answer Refused × List ℕ × List ℕ
+
+leaving_alone : (x y : Leaving) → left (numbered x.0) x.1 x.2 ≡ left (numbered y.0) y.1 y.2 → x ≡ y
+leaving_alone x y p =
+    ap₂ (λ (r : Result Answer Refused) (l : Left). (r, l.image, l.area)) (numbered_alone x.0 y.0 (ap (λ (l : Left). l.answer) p)) p
+
+pub port_byte_result_pinned : (u : Port) (image area : List ℕ) (b : ℕ) → Pins (λ (w : Leaving). ByteEnsures u image area b (numbered w.0) w.1 w.2)
+port_byte_result_pinned u image area b x y p q = leaving_alone x y (p ∙ sym q)
+
+pub port_run_result_pinned : (u : Port) (image area bytes : List ℕ) → Pins (λ (w : Leaving). RunEnsures u image area bytes (numbered w.0) w.1 w.2)
+port_run_result_pinned u image area bytes x y p q = leaving_alone x y (p ∙ sym q)

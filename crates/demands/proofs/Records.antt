@@ -8,10 +8,10 @@ use mathlib.Core.List.{List, [], ◌∷◌}
 use lib.ListN.{length, get_or, take}
 use lib.Dec.{ltb, eqb}
 use borrow.Author.Tests.{ltb-true, leb-true, eqb-true, lt-ltb, le-leb, eq-eqb}
-use Rattle.flash.specs.declared.Found.{Found}
-use Rattle.flash.specs.declared.Found.TheVariants.{Inside, Outside}
+use Rattle.flash.specs.declared.Spot.{Spot}
+use Rattle.std.proofs.Common.{Option, Some, None}
 use Rattle.slices.specs.Lists.{same}
-use Rattle.flash.specs.Blocks.{part, sized, holds, find, place_of, block_from, block_size}
+use Rattle.flash.specs.Blocks.{spot, part, sized, holds, find, place_of, block_from, block_size}
 use Rattle.flash.specs.Image.{byte_at, stored_id, is_blank}
 use Rattle.slices.proofs.Lists.{and_both, both_and}
 use Rattle.flash.proofs.Places.{rising, Lies, found, lies, not_outside}
@@ -223,10 +223,10 @@ block_is i k = (there, back i)
     back (suc (suc (suc (suc i)))) w = absurd (omega (arith, w.0, w.1))
 
 -- the addresses of the flash, with their blocks and places
-pub address_is : (a i k : ℕ) → Address a i k ↔ (find part a ≡ Inside i k)
+pub address_is : (a i k : ℕ) → Address a i k ↔ (find part a ≡ Some (spot i k))
 address_is a i k = (there, λ e. back i (found part a i k e))
   where
-    there : {i k : ℕ} → Address a i k → find part a ≡ Inside i k
+    there : {i k : ℕ} → Address a i k → find part a ≡ Some (spot i k)
     there (in_0 g h) = lies 0 part rising a 0 _ (record { number = omega arith; from = g; under = omega arith; place = omega arith })
     there (in_1 g h) = lies 0 part rising a 1 _ (record { number = omega arith; from = g; under = omega arith; place = omega arith })
     there (in_2 g h) = lies 0 part rising a 2 _ (record { number = omega arith; from = g; under = omega arith; place = omega arith })
@@ -243,12 +243,12 @@ address_is a i k = (there, λ e. back i (found part a i k e))
     back (suc (suc (suc (suc i)))) l = absurd (omega (arith, l.number))
 
 -- any other address is outside
-pub outside_is : (a : ℕ) → (find part a ≡ Outside) ↔ ((i k : ℕ) → Address a i k → ⊥)
+pub outside_is : (a : ℕ) → (find part a ≡ None) ↔ ((i k : ℕ) → Address a i k → ⊥)
 outside_is a = (λ e i k d. not_outside ((address_is a i k).0 d) e, λ f. go f (find part a) refl)
   where
-    go : ((i k : ℕ) → Address a i k → ⊥) → (w : Found) → find part a ≡ w → find part a ≡ Outside
-    go f (Inside i k) e = absurd (f i k ((address_is a i k).1 e))
-    go f Outside e = e
+    go : ((i k : ℕ) → Address a i k → ⊥) → (w : Option Spot) → find part a ≡ w → find part a ≡ None
+    go f (Some it) e = absurd (f it.block it.place ((address_is a it.block it.place).1 e))
+    go f None e = e
 
 -- each place of a block has an address
 pub place_address : {i k : ℕ} → InBlock i k → (a : ℕ) × Address a i k

@@ -9,9 +9,10 @@ use mathlib.Core.List.{List, [], ◌∷◌}
 use lib.ListN.{length, replicate}
 use Rattle.packets.specs.Pieces.{packet_bytes, right}
 use Rattle.packets.proofs.Decisions.{list?}
-use Rattle.flash.specs.declared.Found.{Found}
-use Rattle.flash.specs.declared.Found.TheVariants.{Inside, Outside}
-use Rattle.flash.specs.Blocks.{part, find}
+use Rattle.flash.specs.declared.Spot.{Spot}
+use Rattle.std.proofs.Common.{Option, Some, None}
+use Rattle.flash.specs.Blocks.{spot, part, find}
+use Rattle.flash.proofs.Places.{one_spot}
 use Rattle.flash.specs.Image.{permitted}
 use Rattle.flash.proofs.Effects.{byte_at_lem}
 use Rattle.unit.specs.declared.Unit.{Unit as Port}
@@ -91,11 +92,11 @@ module _ {u : Port} (ready : Ready u) (img : List ℕ) (size : length img ≡ 20
   page_row : (mid high : ℕ) (o : Open u) → Ended u (takes_ff {mid = mid} {high = high} o) img (run u img (0xFF ∷ mid ∷ high ∷ []))
   page_row mid high o = go (find part (256 * mid + 65536 * high)) refl
     where
-      go : (f : Found) → find part (256 * mid + 65536 * high) ≡ f → Ended u (takes_ff {mid = mid} {high = high} o) img (run u img (0xFF ∷ mid ∷ high ∷ []))
-      go (Inside i k) e =
+      go : (f : Option Spot) → find part (256 * mid + 65536 * high) ≡ f → Ended u (takes_ff {mid = mid} {high = high} o) img (run u img (0xFF ∷ mid ∷ high ∷ []))
+      go (Some it) e =
           row_ended (takes_ff {mid = mid} {high = high} o) img (read_part ready ((open_is u).0 o) img size mid high e)
-          (λ new q. (inside ((address_is (256 * mid + 65536 * high) i k).1 e), refl, q))
-      go Outside e =
+          (λ new q. (inside ((address_is (256 * mid + 65536 * high) it.block it.place).1 e), refl, q))
+      go None e =
           row_ended (takes_ff {mid = mid} {high = high} o) img (read_outside ready ((open_is u).0 o) img size mid high e)
           (λ new q. (outside ((outside_is (256 * mid + 65536 * high)).0 e), refl, q))
 
@@ -162,18 +163,18 @@ module _ {u : Port} (ready : Ready u) (img : List ℕ) (size : length img ≡ 20
           row_ended w img e
           (λ new k. subst⁻¹ (Effect w img [] (srd_becomes 0xA0 u.registers)) k (refl, confirmed refl h (refused n)))
 
-      inside_block : u.registers.srd ≡ 0x80 → (i k : ℕ) → find part a ≡ Inside i k → Dec (p / 2 ^ i % 2 ≡ 0) → Ended u w img (run u img (0x20 ∷ mid ∷ high ∷ 0xD0 ∷ []))
+      inside_block : u.registers.srd ≡ 0x80 → (i k : ℕ) → find part a ≡ Some (spot i k) → Dec (p / 2 ^ i % 2 ≡ 0) → Ended u w img (run u img (0x20 ∷ mid ∷ high ∷ 0xD0 ∷ []))
       inside_block h i k e (yes z) =
           row_ended w img (erase_block_lem ready ((open_is u).0 o) img block_packet h size e z)
           (λ new q. (refl, confirmed refl h (erased ((address_is a i k).1 e) z (one_erased i q))))
       inside_block h i k e (no z) =
           sets_sr5 h
-          (λ j n d f. let x = (address_is a j n).0 d in let y : j ≡ i = cc in z (subst (λ (i : ℕ). p / 2 ^ i % 2 ≡ 0) y f))
+          (λ j n d f. let y : j ≡ i = (one_spot ((address_is a j n).0 d) e).0 in z (subst (λ (i : ℕ). p / 2 ^ i % 2 ≡ 0) y f))
           (erase_protected ready ((open_is u).0 o) img block_packet h e (omega (arith, z)))
 
-      go : u.registers.srd ≡ 0x80 → (f : Found) → find part a ≡ f → Ended u w img (run u img (0x20 ∷ mid ∷ high ∷ 0xD0 ∷ []))
-      go h (Inside i k) e = inside_block h i k e (ℕ_discrete (p / 2 ^ i % 2) 0)
-      go h Outside e = sets_sr5 h (λ i k d f. (outside_is a).0 e i k d) (erase_outside ready ((open_is u).0 o) img block_packet h e)
+      go : u.registers.srd ≡ 0x80 → (f : Option Spot) → find part a ≡ f → Ended u w img (run u img (0x20 ∷ mid ∷ high ∷ 0xD0 ∷ []))
+      go h (Some it) e = inside_block h it.block it.place e (ℕ_discrete (p / 2 ^ it.block % 2) 0)
+      go h None e = sets_sr5 h (λ i k d f. (outside_is a).0 e i k d) (erase_outside ready ((open_is u).0 o) img block_packet h e)
 
   all_row : (confirm : ℕ) (o : Open u) → Ended u (takes_a7 {confirm = confirm} o) img (run u img (0xA7 ∷ confirm ∷ []))
   all_row confirm o =

@@ -11,10 +11,10 @@ use lib.Seq.{get_or-take, get_or-drop, ext_get_or, length-take-le}
 use lib.Dec.{eqb}
 use lib.Bits.{bit_and}
 use borrow.Author.Tests.{eqb-true, eqb-false}
-use Rattle.flash.specs.declared.Found.{Found}
-use Rattle.flash.specs.declared.Found.TheVariants.{Inside, Outside}
+use Rattle.flash.specs.declared.Spot.{Spot}
+use Rattle.std.proofs.Common.{Option, Some, None}
 use Rattle.slices.specs.Lists.{same}
-use Rattle.flash.specs.Blocks.{Block, Rising, image_size, sized, find, place_of, guarded}
+use Rattle.flash.specs.Blocks.{spot, Block, Rising, image_size, sized, find, place_of, guarded}
 use Rattle.flash.specs.Image.{byte_at, permitted, programmed, wiped}
 use Rattle.flash.specs.Effects.{is_inside, Programmed, Erased}
 use Rattle.slices.proofs.Lists.{same_true, same_refl}
@@ -23,20 +23,20 @@ use Rattle.flash.proofs.Permits.{permitted_some, permitted_found, permitted_fits
 use Rattle.flash.proofs.Outcomes.{sized_true}
 use Rattle.flash.proofs.Changes.{length_programmed, programmed_at, programmed_other, length_wiped, wiped_at, wiped_other}
 
-pub byte_at_lem : (bs : List Block) (img : List ℕ) (x i k : ℕ) → find bs x ≡ Inside i k → byte_at bs img x ≡ get_or img k 0
+pub byte_at_lem : (bs : List Block) (img : List ℕ) (x i k : ℕ) → find bs x ≡ Some (spot i k) → byte_at bs img x ≡ get_or img k 0
 unfolding byte_at place_of
-byte_at_lem bs img x i k e = ap (λ (w : Found). get_or img (place_of bs w) 0) e
+byte_at_lem bs img x i k e = ap (λ (w : Option Spot). get_or img (place_of bs w) 0) e
 
-pub inside_found : (w : Found) → is_inside w ≡ true → (i : ℕ) × (k : ℕ) × (w ≡ Inside i k)
+pub inside_found : (w : Option Spot) → is_inside w ≡ true → (i : ℕ) × (k : ℕ) × (w ≡ Some (spot i k))
 unfolding is_inside
-inside_found (Inside i k) e = (i, k, refl)
-inside_found Outside e = absurd (false≢true e)
+inside_found (Some it) e = (it.block, it.place, refl)
+inside_found None e = absurd (false≢true e)
 
-pub found_inside : (w : Found) (i k : ℕ) → w ≡ Inside i k → is_inside w ≡ true
+pub found_inside : (w : Option Spot) (i k : ℕ) → w ≡ Some (spot i k) → is_inside w ≡ true
 unfolding is_inside
 found_inside w i k e = ap is_inside e
 
-pub place_is : (bs : List Block) (w : Found) (i k : ℕ) → w ≡ Inside i k → place_of bs w ≡ k
+pub place_is : (bs : List Block) (w : Option Spot) (i k : ℕ) → w ≡ Some (spot i k) → place_of bs w ≡ k
 unfolding place_of
 place_is bs w i k e = ap (place_of bs) e
 
@@ -65,11 +65,11 @@ module _ (bs : List Block) (r : Rising 0 bs) where
   one_erased chosen img l m s p q =
       by_bytes l m (p.size ∙ sized_true bs img s) (q.size ∙ sized_true bs img s) (λ x e. go x (inside_found (find bs x) e))
     where
-      at : (x i k : ℕ) → find bs x ≡ Inside i k → (t : Bool) → chosen i ≡ t → byte_at bs l x ≡ byte_at bs m x
+      at : (x i k : ℕ) → find bs x ≡ Some (spot i k) → (t : Bool) → chosen i ≡ t → byte_at bs l x ≡ byte_at bs m x
       at x i k f true c = p.there x i k f c ∙ sym (q.there x i k f c)
       at x i k f false c = p.elsewhere x i k f c ∙ sym (q.elsewhere x i k f c)
 
-      go : (x : ℕ) → (i : ℕ) × (k : ℕ) × (find bs x ≡ Inside i k) → byte_at bs l x ≡ byte_at bs m x
+      go : (x : ℕ) → (i : ℕ) × (k : ℕ) × (find bs x ≡ Some (spot i k)) → byte_at bs l x ≡ byte_at bs m x
       go x w = at x w.0 w.1 w.2 (chosen w.0) refl
 
   -- a program
@@ -78,18 +78,18 @@ module _ (bs : List Block) (r : Rising 0 bs) where
     new = programmed (place_of bs (find bs a)) img ds
 
     -- where it begins, in terms of the image
-    start : (i : ℕ) × (k : ℕ) × (find bs a ≡ Inside i k) × (guarded p i ≡ false)
+    start : (i : ℕ) × (k : ℕ) × (find bs a ≡ Some (spot i k)) × (guarded p i ≡ false)
     start = permitted_inside bs p a ds may
 
     begins : place_of bs (find bs a) ≡ start.1
     begins = place_is bs (find bs a) start.0 start.1 start.2
 
-    goes : (j : ℕ) → j < length ds → (m : ℕ) × (find bs (a + j) ≡ Inside m (place_of bs (find bs a) + j)) × (guarded p m ≡ false)
-    goes j h = permitted_found bs p 0 r a ds may start.0 (place_of bs (find bs a)) (start.2 ∙ ap (Inside start.0) (sym begins)) j h
+    goes : (j : ℕ) → j < length ds → (m : ℕ) × (find bs (a + j) ≡ Some (spot m (place_of bs (find bs a) + j))) × (guarded p m ≡ false)
+    goes j h = permitted_found bs p 0 r a ds may start.0 (place_of bs (find bs a)) (start.2 ∙ ap (λ (n : ℕ). Some (spot start.0 n)) (sym begins)) j h
 
     ends : place_of bs (find bs a) + length ds ≤ length img
     ends =
-        omega (arith, sized_true bs img size, permitted_fits bs p 0 r a ds may start.0 (place_of bs (find bs a)) (start.2 ∙ ap (Inside start.0) (sym begins)))
+        omega (arith, sized_true bs img size, permitted_fits bs p 0 r a ds may start.0 (place_of bs (find bs a)) (start.2 ∙ ap (λ (n : ℕ). Some (spot start.0 n)) (sym begins)))
 
     program_there : (j : ℕ) → j < length ds → byte_at bs new (a + j) ≡ bit_and (byte_at bs img (a + j)) (get_or ds j 0)
     unfolding new
@@ -100,7 +100,7 @@ module _ (bs : List Block) (r : Rising 0 bs) where
         ∙ (programmed_at k img ds j h (omega (arith, ends))
         ∙ ap (λ (x : ℕ). bit_and x (get_or ds j 0)) (sym (byte_at_lem bs img (a + j) w.0 (k + j) w.1)))
 
-    apart : (x i k : ℕ) → find bs x ≡ Inside i k → (x < a) ⊎ (a + length ds ≤ x) → (k < place_of bs (find bs a)) ⊎ (place_of bs (find bs a) + length ds ≤ k)
+    apart : (x i k : ℕ) → find bs x ≡ Some (spot i k) → (x < a) ⊎ (a + length ds ≤ x) → (k < place_of bs (find bs a)) ⊎ (place_of bs (find bs a) + length ds ≤ k)
     apart x i k e (inl h) = inl (omega (arith, begins, in_order 0 bs r x a i start.0 k start.1 e start.2 h))
     apart x i k e (inr h) =
         let some : 0 < length ds = permitted_some bs p a ds may in
@@ -144,7 +144,7 @@ module _ (bs : List Block) (r : Rising 0 bs) where
         ap (λ (x : List ℕ). same x ds) e ∙ same_refl ds
 
 -- an erase of one block
-pub block_effect : (bs : List Block) (img : List ℕ) → sized bs img ≡ true → (a i k : ℕ) → find bs a ≡ Inside i k → Erased bs (λ j. eqb j i) img (wiped bs i img)
+pub block_effect : (bs : List Block) (img : List ℕ) → sized bs img ≡ true → (a i k : ℕ) → find bs a ≡ Some (spot i k) → Erased bs (λ j. eqb j i) img (wiped bs i img)
 block_effect bs img s a i k e = record { size = length_wiped bs i img of size; there = at; elsewhere = off }
   where
     of : i < length bs
@@ -153,12 +153,12 @@ block_effect bs img s a i k e = record { size = length_wiped bs i img of size; t
     size : length img ≡ image_size bs
     size = sized_true bs img s
 
-    at : (x j m : ℕ) → find bs x ≡ Inside j m → eqb j i ≡ true → byte_at bs (wiped bs i img) x ≡ 0xFF
+    at : (x j m : ℕ) → find bs x ≡ Some (spot j m) → eqb j i ≡ true → byte_at bs (wiped bs i img) x ≡ 0xFF
     at x j m f q =
-        let g : find bs x ≡ Inside i m = f ∙ ap (λ (n : ℕ). Inside n m) (eqb-true j i q) in
+        let g : find bs x ≡ Some (spot i m) = f ∙ ap (λ (n : ℕ). Some (spot n m)) (eqb-true j i q) in
         byte_at_lem bs (wiped bs i img) x j m f ∙ wiped_at bs i img of size m (found_from bs x i m g) (found_under bs x i m g)
 
-    off : (x j m : ℕ) → find bs x ≡ Inside j m → eqb j i ≡ false → byte_at bs (wiped bs i img) x ≡ byte_at bs img x
+    off : (x j m : ℕ) → find bs x ≡ Some (spot j m) → eqb j i ≡ false → byte_at bs (wiped bs i img) x ≡ byte_at bs img x
     off x j m f q =
         byte_at_lem bs (wiped bs i img) x j m f
         ∙ (wiped_other bs i img of size m (λ u v. eqb-false j i q (one_place bs m j i (found_from bs x j m f) (found_under bs x j m f) u v)) ∙ sym (byte_at_lem bs img x j m f))

@@ -8,8 +8,8 @@ use mathlib.Core.Path.{◌≡◌, refl, ap, sym, ◌∙◌, subst}
 use mathlib.Core.List.{List}
 use lib.ListN.{length, get_or}
 use borrow.Author.Tests.{not-true, not-false}
-use Rattle.flash.specs.declared.Found.TheVariants.{Inside}
-use Rattle.flash.specs.Blocks.{Block, Rising, image_size, sized, find, place_of, block_from, block_size, guarded, free}
+use Rattle.std.proofs.Common.{Some}
+use Rattle.flash.specs.Blocks.{spot, Block, Rising, image_size, sized, find, place_of, block_from, block_size, guarded, free}
 use Rattle.flash.specs.Image.{byte_at, permitted, burnt, Written, program, wiped_free, wiped_to, erase_block, erase_all}
 use Rattle.flash.specs.Effects.{Erased}
 use Rattle.flash.proofs.Places.{found_number, found_from, found_under, found_block, one_place}
@@ -82,13 +82,13 @@ module _ (bs : List Block) (p i k : ℕ) (from : block_from bs i ≤ k) (under :
         at : Written → ℕ
         at w = get_or w.image k 0
 
-        apart : (x j : ℕ) → permitted bs p a ds ≡ true → find bs a ≡ Inside j x → Dec (k < x) → Dec (k < x + length ds) → (k < x) ⊎ (x + length ds ≤ k)
+        apart : (x j : ℕ) → permitted bs p a ds ≡ true → find bs a ≡ Some (spot j x) → Dec (k < x) → Dec (k < x + length ds) → (k < x) ⊎ (x + length ds ≤ k)
         apart x j may e (yes h) d = inl h
         apart x j may e (no h) (no d) = inr (omega arith)
         apart x j may e (no h) (yes d) =
             let w = permitted_found bs p 0 r a ds may j x e (k - x) (omega arith) in
             let q : x + (k - x) ≡ k = omega arith in
-            absurd (false≢true (sym w.2 ∙ (ap (guarded p) (sym (found_block bs (a + (k - x)) i w.0 k from under (w.1 ∙ ap (Inside w.0) q))) ∙ g)))
+            absurd (false≢true (sym w.2 ∙ (ap (guarded p) (sym (found_block bs (a + (k - x)) i w.0 k from under (w.1 ∙ ap (λ (n : ℕ). Some (spot w.0 n)) q))) ∙ g)))
 
         go : (s : Bool) → sized bs img ≡ s → (f : Bool) → permitted bs p a ds ≡ f → get_or (program bs p img a ds).image k 0 ≡ get_or img k 0
         go false e f q = ap at (program_unsized bs p img a ds e)
@@ -96,7 +96,7 @@ module _ (bs : List Block) (p i k : ℕ) (from : block_from bs i ≤ k) (under :
         go true e true q =
             let w = permitted_inside bs p a ds q in
             let x : ℕ = place_of bs (find bs a) in
-            let b : find bs a ≡ Inside w.0 x = w.2 ∙ ap (Inside w.0) (sym (place_is bs (find bs a) w.0 w.1 w.2)) in
+            let b : find bs a ≡ Some (spot w.0 x) = w.2 ∙ ap (λ (n : ℕ). Some (spot w.0 n)) (sym (place_is bs (find bs a) w.0 w.1 w.2)) in
             ap at (program_done bs p img a ds e q)
             ∙ programmed_other x img ds k (omega (arith, sized_true bs img e, permitted_fits bs p 0 r a ds q w.0 x b)) (apart x w.0 q b (dec_lt k x) (dec_lt k (x + length ds)))
 
@@ -104,13 +104,13 @@ module _ (bs : List Block) (p i k : ℕ) (from : block_from bs i ≤ k) (under :
 pub all_effect : (bs : List Block) (p : ℕ) (img : List ℕ) → sized bs img ≡ true → Erased bs (λ j. not (guarded p j)) img (erase_all bs p img)
 all_effect bs p img s = record { size = length_eraseall bs p img; there = at; elsewhere = off }
   where
-    at : (x i k : ℕ) → find bs x ≡ Inside i k → not (guarded p i) ≡ true → byte_at bs (erase_all bs p img) x ≡ 0xFF
+    at : (x i k : ℕ) → find bs x ≡ Some (spot i k) → not (guarded p i) ≡ true → byte_at bs (erase_all bs p img) x ≡ 0xFF
     at x i k e q =
         byte_at_lem bs (erase_all bs p img) x i k e
         ∙ (ap (λ (l : List ℕ). get_or l k 0) (all_done bs p img s)
         ∙ wipedto_there bs p i k (found_from bs x i k e) (found_under bs x i k e) img (sized_true bs img s) (not-true (guarded p i) q) (length bs) (omega arith) (found_number bs x i k e))
 
-    off : (x i k : ℕ) → find bs x ≡ Inside i k → not (guarded p i) ≡ false → byte_at bs (erase_all bs p img) x ≡ byte_at bs img x
+    off : (x i k : ℕ) → find bs x ≡ Some (spot i k) → not (guarded p i) ≡ false → byte_at bs (erase_all bs p img) x ≡ byte_at bs img x
     off x i k e q =
         byte_at_lem bs (erase_all bs p img) x i k e
         ∙ (all_keeps bs p i k (found_from bs x i k e) (found_under bs x i k e) (not-false (guarded p i) q) img ∙ sym (byte_at_lem bs img x i k e))

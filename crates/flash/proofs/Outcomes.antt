@@ -8,11 +8,12 @@ use lib.ListN.{length, take, drop, length-take, length-drop}
 use lib.Seq.{take_at, drop_at, length-take-le}
 use lib.Bits.{bit_and}
 use borrow.Author.Tests.{eq-eqb, ne_eqb, eqb-true}
-use Rattle.flash.specs.declared.Found.TheVariants.{Inside}
+use Rattle.std.proofs.Common.{Some}
 use Rattle.slices.specs.Lists.{same}
-use Rattle.flash.specs.Blocks.{Block, image_size, sized, find, block_of, place_of, guarded, free}
+use Rattle.flash.specs.Blocks.{spot, Block, image_size, sized, find, block_of, place_of, guarded, free}
 use Rattle.flash.specs.Image.{burn, programmed, permitted, written, burnt, program, wiped, erase_block, wiped_free, wiped_to, erase_all}
-use Rattle.slices.proofs.Lists.{both_and, and_false}
+use Rattle.std.proofs.Math.Bool.{and-false}
+use Rattle.slices.proofs.Lists.{both_and}
 use Rattle.flash.proofs.Turns.{length_burn}
 
 pub sized_true : (bs : List Block) (img : List ℕ) → sized bs img ≡ true → length img ≡ image_size bs
@@ -35,7 +36,7 @@ module _ (bs : List Block) (p : ℕ) (img : List ℕ) (a : ℕ) where
   pub program_refused : (ds : List ℕ) → permitted bs p a ds ≡ false → program bs p img a ds ≡ written img false
   unfolding program
   program_refused ds e =
-      ap (λ (t : Bool). cond t (burnt (place_of bs (find bs a)) img ds) (written img false)) (ap (λ (t : Bool). sized bs img && t) e ∙ and_false (sized bs img))
+      ap (λ (t : Bool). cond t (burnt (place_of bs (find bs a)) img ds) (written img false)) (ap (λ (t : Bool). sized bs img && t) e ∙ and-false (sized bs img))
 
   pub program_done : (ds : List ℕ) → sized bs img ≡ true → permitted bs p a ds ≡ true → program bs p img a ds ≡ burnt (place_of bs (find bs a)) img ds
   unfolding program
@@ -49,9 +50,9 @@ module _ (bs : List Block) (p : ℕ) (img : List ℕ) (a : ℕ) where
   pub erase_refused : free p (find bs a) ≡ false → erase_block bs p img a ≡ written img false
   unfolding erase_block
   erase_refused e =
-      ap (λ (t : Bool). cond t (written (wiped bs (block_of bs (find bs a)) img) true) (written img false)) (ap (λ (t : Bool). sized bs img && t) e ∙ and_false (sized bs img))
+      ap (λ (t : Bool). cond t (written (wiped bs (block_of bs (find bs a)) img) true) (written img false)) (ap (λ (t : Bool). sized bs img && t) e ∙ and-false (sized bs img))
 
-  pub erase_done : (i k : ℕ) → sized bs img ≡ true → find bs a ≡ Inside i k → guarded p i ≡ false → erase_block bs p img a ≡ written (wiped bs i img) true
+  pub erase_done : (i k : ℕ) → sized bs img ≡ true → find bs a ≡ Some (spot i k) → guarded p i ≡ false → erase_block bs p img a ≡ written (wiped bs i img) true
   unfolding erase_block free block_of
   erase_done i k s e g = rw (s, e, g)
 

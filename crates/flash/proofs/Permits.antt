@@ -8,18 +8,18 @@ use mathlib.Core.List.{List}
 use lib.ListN.{length}
 use lib.Dec.{ltb}
 use borrow.Author.Tests.{ltb-true, not-true}
-use Rattle.flash.specs.declared.Found.{Found}
-use Rattle.flash.specs.declared.Found.TheVariants.{Inside, Outside}
-use Rattle.flash.specs.Blocks.{Block, part, Rising, image_size, find, guarded, free}
+use Rattle.flash.specs.declared.Spot.{Spot}
+use Rattle.std.proofs.Common.{Option, Some, None}
+use Rattle.flash.specs.Blocks.{spot, Block, part, Rising, image_size, find, guarded, free}
 use Rattle.flash.specs.Image.{free_from, permitted}
 use Rattle.slices.proofs.Lists.{and_both, both_and}
-use Rattle.flash.proofs.Places.{Lies, found, found_fits, next_place, page_inside, page_outside}
+use Rattle.flash.proofs.Places.{Lies, found, one_spot, found_fits, next_place, page_inside, page_outside}
 
 -- what is free is inside, in a block that is not protected
-pub free_found : (p : ℕ) (w : Found) → free p w ≡ true → (i : ℕ) × (k : ℕ) × (w ≡ Inside i k) × (guarded p i ≡ false)
+pub free_found : (p : ℕ) (w : Option Spot) → free p w ≡ true → (i : ℕ) × (k : ℕ) × (w ≡ Some (spot i k)) × (guarded p i ≡ false)
 unfolding free
-free_found p (Inside i k) e = (i, k, refl, not-true (guarded p i) e)
-free_found p Outside e = absurd (false≢true e)
+free_found p (Some it) e = (it.block, it.place, refl, not-true (guarded p it.block) e)
+free_found p None e = absurd (false≢true e)
 
 -- the part ends at 0FFFF
 pub free_below : (p a : ℕ) → free p (find part a) ≡ true → a < 65536
@@ -79,38 +79,37 @@ module _ (bs : List Block) (p : ℕ) where
     unfolding free
     page_free a j h = go (find bs a) refl
       where
-        go : (w : Found) → find bs a ≡ w → free p (find bs (a + j)) ≡ free p (find bs a)
-        go (Inside i k) e = rw (e, page_inside lo bs r a j i k h e)
-        go Outside e = rw (e, page_outside lo bs r a j h e)
+        go : (w : Option Spot) → find bs a ≡ w → free p (find bs (a + j)) ≡ free p (find bs a)
+        go (Some it) e = rw (e, page_inside lo bs r a j it.block it.place h e)
+        go None e = rw (e, page_outside lo bs r a j h e)
 
     -- one free address frees the rest of its page
     pub free_page : (a n : ℕ) → a % 256 + n ≤ 256 → free p (find bs a) ≡ true → free_from bs p a n ≡ true
     free_page a n h e = all_free a n (λ j s. page_free a j (omega arith) ∙ e)
 
     -- a permitted program goes to one place after the other, none of them in a protected block
-    pub permitted_found : (a : ℕ) (ds : List ℕ) → permitted bs p a ds ≡ true → (i k : ℕ) → find bs a ≡ Inside i k → (j : ℕ) → j < length ds → (m : ℕ) × (find bs (a + j) ≡ Inside m (k + j)) × (guarded p m ≡ false)
+    pub permitted_found : (a : ℕ) (ds : List ℕ) → permitted bs p a ds ≡ true → (i k : ℕ) → find bs a ≡ Some (spot i k) → (j : ℕ) → j < length ds → (m : ℕ) × (find bs (a + j) ≡ Some (spot m (k + j))) × (guarded p m ≡ false)
     permitted_found a ds g i k e zero h =
         let w = free_found p (find bs (a + 0)) (permitted_free a ds g 0 h) in
         let x : a + 0 ≡ a = omega arith in
         let y : k + 0 ≡ k = omega arith in
-        let f : Inside w.0 w.1 ≡ Inside i k = sym w.2 ∙ (ap (find bs) x ∙ e) in
-        let q : w.1 ≡ k + 0 = cc in
-        (w.0, w.2 ∙ ap (Inside w.0) q, w.3)
+        let q : w.1 ≡ k + 0 = (one_spot (sym (ap (find bs) x) ∙ w.2) e).1 ∙ sym y in
+        (w.0, w.2 ∙ ap (λ (n : ℕ). Some (spot w.0 n)) q, w.3)
     permitted_found a ds g i k e (suc j) h =
         let v = permitted_found a ds g i k e j (omega arith) in
         let w = free_found p (find bs (a + suc j)) (permitted_free a ds g (suc j) h) in
         let x : a + suc j ≡ suc (a + j) = omega arith in
         let s : w.1 ≡ suc (k + j) = next_place lo bs r (a + j) v.0 w.0 (k + j) w.1 v.1 (ap (find bs) (sym x) ∙ w.2) in
         let q : w.1 ≡ k + suc j = omega arith in
-        (w.0, w.2 ∙ ap (Inside w.0) q, w.3)
+        (w.0, w.2 ∙ ap (λ (n : ℕ). Some (spot w.0 n)) q, w.3)
 
-    pub permitted_fits : (a : ℕ) (ds : List ℕ) → permitted bs p a ds ≡ true → (i k : ℕ) → find bs a ≡ Inside i k → k + length ds ≤ image_size bs
+    pub permitted_fits : (a : ℕ) (ds : List ℕ) → permitted bs p a ds ≡ true → (i k : ℕ) → find bs a ≡ Some (spot i k) → k + length ds ≤ image_size bs
     permitted_fits a ds g i k e =
         let some : 0 < length ds = permitted_some a ds g in
         let w = permitted_found a ds g i k e (length ds - 1) (omega arith) in
         omega (arith, found_fits bs (a + (length ds - 1)) w.0 (k + (length ds - 1)) w.1)
 
-  pub permitted_inside : (a : ℕ) (ds : List ℕ) → permitted bs p a ds ≡ true → (i : ℕ) × (k : ℕ) × (find bs a ≡ Inside i k) × (guarded p i ≡ false)
+  pub permitted_inside : (a : ℕ) (ds : List ℕ) → permitted bs p a ds ≡ true → (i : ℕ) × (k : ℕ) × (find bs a ≡ Some (spot i k)) × (guarded p i ≡ false)
   permitted_inside a ds g =
       let x : a + 0 ≡ a = omega arith in
       free_found p (find bs a) (ap (λ (n : ℕ). free p (find bs n)) (sym x) ∙ permitted_free a ds g 0 (permitted_some a ds g))

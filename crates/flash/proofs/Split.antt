@@ -3,9 +3,9 @@ use Prim.Native.Nat.{ℕ, zero, suc, ◌+◌, ◌-◌, ◌*◌, ◌≤◌, ◌<�
 use native.Mathlib.Omega.{arith}
 use mathlib.Core.Path.{◌≡◌, refl, sym}
 use lib.ListN.{length}
-use Rattle.flash.specs.declared.Found.{Found}
-use Rattle.flash.specs.declared.Found.TheVariants.{Inside, Outside}
-use Rattle.flash.specs.Blocks.{part, find, block_from, block_size}
+use Rattle.flash.specs.declared.Spot.{Spot}
+use Rattle.std.proofs.Common.{Option, Some, None}
+use Rattle.flash.specs.Blocks.{spot, part, find, block_from, block_size}
 use Rattle.flash.proofs.Places.{Lies, block_address, rising, lies, found}
 
 -- blocks i and i + 1 are m bytes each, from address f and from place z of the image on
@@ -26,7 +26,7 @@ high (suc (suc (suc zero))) g h = (omega arith, refl, refl, refl)
 high (suc (suc (suc (suc j)))) g h = absurd (omega arith)
 
 -- an address of a region is in the block between whose bounds it lies, as far into the region's part of the image as into the region
-pub in_region : (i f m z : ℕ) → Region i f m z → (a j k : ℕ) → i ≤ j → j < i + 2 → f + (j - i) * m ≤ a → a < f + (j - i) * m + m → k ≡ z + (a - f) → Inside j k ≡ find part a
+pub in_region : (i f m z : ℕ) → Region i f m z → (a j k : ℕ) → i ≤ j → j < i + 2 → f + (j - i) * m ≤ a → a < f + (j - i) * m + m → k ≡ z + (a - f) → Some (spot j k) ≡ find part a
 in_region i f m z r a j k g h p q e =
     let t = r j g h in
     sym
@@ -34,7 +34,7 @@ in_region i f m z r a j k g h p q e =
     (record { number = t.0; from = omega (arith, t.1); under = omega (arith, t.1, t.2); place = omega (arith, t.1, t.3) }))
 
 -- an address of neither region is in no block
-pub in_no_region : (a : ℕ) → (0x2000 ≤ a → a < 0x3000 → ⊥) → (0xC000 ≤ a → a < 0x10000 → ⊥) → Outside ≡ find part a
+pub in_no_region : (a : ℕ) → (0x2000 ≤ a → a < 0x3000 → ⊥) → (0xC000 ≤ a → a < 0x10000 → ⊥) → None ≡ find part a
 in_no_region a not_low not_high = go (find part a) refl
   where
     in_none : (i k : ℕ) → Lies part i k a → ⊥
@@ -44,6 +44,6 @@ in_no_region a not_low not_high = go (find part a) refl
     in_none (suc (suc (suc zero))) k l = not_high (omega (arith, l.from)) (omega (arith, l.under))
     in_none (suc (suc (suc (suc i)))) k l = absurd (omega (arith, l.number))
 
-    go : (w : Found) → find part a ≡ w → Outside ≡ find part a
-    go (Inside i k) e = absurd (in_none i k (found part a i k e))
-    go Outside e = sym e
+    go : (w : Option Spot) → find part a ≡ w → None ≡ find part a
+    go (Some it) e = absurd (in_none it.block it.place (found part a it.block it.place e))
+    go None e = sym e

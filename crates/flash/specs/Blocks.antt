@@ -1,7 +1,6 @@
 -- Document 01, "The flash": a part is a list of blocks in rising order, made of whole 256-byte pages; the image is their bytes, one block after the other.
-use Rattle.std.specs.Prelude.{ℕ, zero, suc, ◌+◌, ◌-◌, ◌*◌, ◌/◌, ◌%◌, ◌^◌, ◌≤◌, ◌<◌, ◌≡◌, Bool, false, cond, not, ◌&&◌, List, [], ◌∷◌, length, ltb, leb, eqb}
-use Rattle.flash.specs.declared.Found.{Found}
-use Rattle.flash.specs.declared.Found.TheVariants.{Inside, Outside}
+use Rattle.std.specs.Prelude.{ℕ, zero, suc, ◌+◌, ◌-◌, ◌*◌, ◌/◌, ◌%◌, ◌^◌, ◌≤◌, ◌<◌, ◌≡◌, Bool, false, cond, not, ◌&&◌, List, [], ◌∷◌, Option, Some, None, length, ltb, leb, eqb}
+use Rattle.flash.specs.declared.Spot.{Spot}
 
 pub record Block : Type 0 where
   pub address : ℕ
@@ -31,23 +30,27 @@ sized bs img = eqb (length img) (image_size bs)
 unfoldable pub holds : Block → ℕ → Bool
 holds b a = leb b.address a && ltb a (b.address + b.size)
 
+-- place k of the image, in block i
+abbrev pub spot : ℕ → ℕ → Spot
+spot i k = record { block = i; place = k }
+
 -- what an address names, where the blocks are numbered from i and the first starts at place f of the image
-abbrev pub find_from : ℕ → ℕ → List Block → ℕ → Found
-find_from i f [] a = Outside
-find_from i f (b ∷ bs) a = cond (holds b a) (Inside i (f + (a - b.address))) (find_from (suc i) (f + b.size) bs a)
+abbrev pub find_from : ℕ → ℕ → List Block → ℕ → Option Spot
+find_from i f [] a = None
+find_from i f (b ∷ bs) a = cond (holds b a) (Some (spot i (f + (a - b.address)))) (find_from (suc i) (f + b.size) bs a)
 
 -- what an address names: the number of its block and its place in the image, or nothing of the flash
-unfoldable pub find : List Block → ℕ → Found
+unfoldable pub find : List Block → ℕ → Option Spot
 find bs a = find_from 0 0 bs a
 
 -- document 01's values of an answer: the block's number, the image offset; a part has no such block, and its image no such offset, where the address is outside
-unfoldable pub block_of : List Block → Found → ℕ
-block_of bs (Inside i k) = i
-block_of bs Outside = length bs
+unfoldable pub block_of : List Block → Option Spot → ℕ
+block_of bs (Some s) = s.block
+block_of bs None = length bs
 
-unfoldable pub place_of : List Block → Found → ℕ
-place_of bs (Inside i k) = k
-place_of bs Outside = image_size bs
+unfoldable pub place_of : List Block → Option Spot → ℕ
+place_of bs (Some s) = s.place
+place_of bs None = image_size bs
 
 -- where block i begins in the image, and how many bytes it has
 abbrev pub block_from : List Block → ℕ → ℕ
@@ -65,9 +68,9 @@ unfoldable pub guarded : ℕ → ℕ → Bool
 guarded p i = eqb (p / 2 ^ i % 2) 1
 
 -- the address is inside, and its block is not protected
-unfoldable pub free : ℕ → Found → Bool
-free p (Inside i k) = not (guarded p i)
-free p Outside = false
+unfoldable pub free : ℕ → Option Spot → Bool
+free p (Some s) = not (guarded p s.block)
+free p None = false
 
 -- the address of a page, and of a byte: mid is A8 to A15, high is A16 to A23
 abbrev pub page_address : ℕ → ℕ → ℕ

@@ -1,11 +1,11 @@
 -- What each function of the crate ensures: the clauses, by name, one equation each with all that the call leaves.
-use Rattle.std.specs.Prelude.{ℕ, ◌≡◌, Bool, List}
-use Rattle.flash.specs.declared.Found.{Found}
+use Rattle.std.specs.Prelude.{ℕ, ◌≡◌, Bool, List, Option}
+use Rattle.flash.specs.declared.Spot.{Spot}
 use Rattle.flash.specs.Blocks.{part, find, page_address}
 use Rattle.flash.specs.Image.{stored_id, is_blank, page_part, written, program, erase_block, erase_all}
 
 -- the block of an address
-abbrev pub BlockOfEnsures : ℕ → Found → Type 0
+abbrev pub BlockOfEnsures : ℕ → Option Spot → Type 0
 BlockOfEnsures address r = r ≡ find part address
 
 -- the first address of a page

@@ -1,8 +1,7 @@
 -- Document 01, "The flash" and the programs' and erases' rules: what the lent image holds, and what programming and erasing leave of it.
-use Rattle.std.specs.Prelude.{ℕ, zero, suc, ◌+◌, Bool, true, false, cond, ◌&&◌, List, [], ◌∷◌, ◌++◌, map, length, get_or, take, drop, replicate, ltb}
+use Rattle.std.specs.Prelude.{ℕ, zero, suc, ◌+◌, Bool, true, false, cond, ◌&&◌, List, [], ◌∷◌, ◌++◌, Option, Some, None, map, length, get_or, take, drop, replicate, ltb}
 use Rattle.std.specs.Int.Bits.{bit_and}
-use Rattle.flash.specs.declared.Found.{Found}
-use Rattle.flash.specs.declared.Found.TheVariants.{Inside, Outside}
+use Rattle.flash.specs.declared.Spot.{Spot}
 use Rattle.slices.specs.Lists.{same}
 use Rattle.flash.specs.Blocks.{Block, sized, find, block_of, place_of, block_from, block_size, guarded, free, page_address}
 
@@ -26,9 +25,9 @@ unfoldable pub is_blank : List Block → List ℕ → Bool
 is_blank bs img = sized bs img && same (map (byte_at bs img) vector_addresses) (0xFF ∷ 0xFF ∷ 0xFF ∷ [])
 
 -- the page from a place of the image on
-unfoldable pub part_at : List ℕ → Found → List ℕ
-part_at img (Inside i k) = take 256 (drop k img)
-part_at img Outside = []
+unfoldable pub part_at : List ℕ → Option Spot → List ℕ
+part_at img (Some s) = take 256 (drop s.place img)
+part_at img None = []
 
 -- a page, as the part of the image; empty if outside or the image has a wrong size
 unfoldable pub page_part : List Block → List ℕ → ℕ → ℕ → List ℕ

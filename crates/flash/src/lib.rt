@@ -4,14 +4,16 @@
 ghost use Rattle.std.specs.Prelude.{◌≡◌, ◌+◌, ◌≤◌, ◌<◌, length};
 ghost use Rattle.slices.specs.Lists.{same};
 ghost use Rattle.flash.specs.Blocks.{part, find, guarded, free, block_from, block_size};
-ghost use Rattle.flash.specs.Image.{burn, free_from, permitted, erased, wiped, wiped_free};
+ghost use Rattle.flash.specs.Image.{burn, free_from, permitted, wiped, wiped_free};
 ghost use Rattle.flash.specs.Clauses.{BlockOfEnsures, PageAddressEnsures, PageEnsures, IdEnsures, BlankEnsures, ProgramEnsures, EraseEnsures, EraseAllEnsures};
 
-// What an address names: the number of its block and its place in the image, or nothing of the flash.
+use std::ops::Range;
+
+// What an address of the flash names: its block, by its number, and its place in the image.
 #[derive(Clone, Copy)]
-pub enum Found {
-    Inside(usize, usize),
-    Outside,
+pub struct Spot {
+    pub block: usize,
+    pub place: usize,
 }
 
 pub const IMAGE: usize = 20480;
@@ -22,36 +24,41 @@ const BLOCKS: usize = 4;
 
 // The block of an address and the place in the image, from the page number: low flash is pages 20 to 2F, blocks of 8 pages, and high flash
 // pages C0 to FF, blocks of 32. In each the image has the bytes in the order of their addresses, without a gap.
-pub fn block_of(address: u32) -> Found
+pub fn block_of(address: u32) -> Option<Spot>
     ensures { BlockOfEnsures address result }
 {
     let page = address / 256;
+    // one split into low and high flash, as it was asked for: a match on the two ranges of pages would ask high flash twice more
     if page < 0xC0 {
         if page < 0x20 {
-            return Found::Outside;
+            return None;
         }
         if 0x2F < page {
-            return Found::Outside;
+            return None;
         }
-        return Found::Inside(((page - 0x20) / 8) as usize, (address - 0x2000) as usize);
+        return Some(Spot {
+            block: ((page - 0x20) / 8) as usize,
+            place: (address - 0x2000) as usize,
+        });
     }
     if 0xFF < page {
-        return Found::Outside;
+        return None;
     }
-    Found::Inside(
-        2 + ((page - 0xC0) / 32) as usize,
-        4096 + (address - 0xC000) as usize,
-    )
+    Some(Spot {
+        block: 2 + ((page - 0xC0) / 32) as usize,
+        place: 4096 + (address - 0xC000) as usize,
+    })
 }
 
 // The first address of a page: its low byte is 00.
 pub fn page_address(mid: u8, high: u8) -> u32
     ensures { PageAddressEnsures mid high result }
 {
-    (mid as u32) * 256 + (high as u32) * 65536
+    u32::from_le_bytes([0, mid, high, 0])
 }
 
 // The page of 256 bytes as the part of the lent image itself; an empty part where it is outside, or the image has a wrong size.
+// No Option, here and in `id` and `blank`: document 01 names the empty part, and `flash_page_pinned` and its like what a wrong size gives.
 pub fn page(image: &[u8], mid: u8, high: u8) -> &[u8]
     ensures { PageEnsures image.now mid high result.now }
 {
@@ -59,17 +66,17 @@ pub fn page(image: &[u8], mid: u8, high: u8) -> &[u8]
         return &image[..0];
     }
     match block_of(page_address(mid, high)) {
-        Found::Inside(_, place) => &image[place..place + PAGE],
-        Found::Outside => &image[..0],
+        Some(spot) => &image[spot.place..spot.place + PAGE],
+        None => &image[..0],
     }
 }
 
-// The seven ID bytes; zeros where the image has a wrong size.
+// The seven ID bytes; zeros where the image has a wrong size. Their places one by one: over an array of places by `map` its goal stayed open.
 pub fn id(image: &[u8]) -> [u8; 7]
     ensures { IdEnsures image.now result }
 {
     if image.len() != IMAGE {
-        return [0u8; 7];
+        return [0; 7];
     }
     [
         image[20447],
@@ -86,42 +93,30 @@ pub fn id(image: &[u8]) -> [u8; 7]
 pub fn blank(image: &[u8]) -> bool
     ensures { BlankEnsures image.now result }
 {
-    if image.len() != IMAGE {
-        return false;
-    }
-    if image[20476] != 0xFF {
-        return false;
-    }
-    if image[20477] != 0xFF {
-        return false;
-    }
-    image[20478] == 0xFF
+    image.len() == IMAGE && slices::is_same(&image[20476..20479], &[0xFF; 3])
 }
 
-// Bit `block` of the protection number.
+// Bit `block` of the protection number. `block < 4` stands here and in three functions below: a type for it would be made in two places, and taken apart in each of the four.
+#[tactic(auto, unfolding(crate::specs::Blocks::guarded))]
 fn is_guarded(protection: u8, block: usize) -> bool
     requires { block < 4 }
     ensures { result ≡ guarded protection block }
 {
-    match block {
-        0 => protection % 2 == 1,
-        1 => protection / 2 % 2 == 1,
-        2 => protection / 4 % 2 == 1,
-        _ => protection / 8 % 2 == 1,
-    }
+    (protection >> block) % 2 == 1
 }
 
-// The address is inside, and its block is not protected.
+// The address is inside, and its block is not protected. The two stand side by side here as in `program` and `erase`, whose theorems speak of each.
 fn is_free(protection: u8, address: u32) -> bool
     ensures { result ≡ free protection (find part address) }
 {
     match block_of(address) {
-        Found::Inside(block, _) => !is_guarded(protection, block),
-        Found::Outside => false,
+        Some(spot) => !is_guarded(protection, spot.block),
+        None => false,
     }
 }
 
 // Each of n addresses is inside and not protected: one address of a page speaks for all of it.
+// It steps by pages, the first of them cut: a range is no plainer, since it must say which page an address past 2^32 has.
 fn are_free(protection: u8, address: u32, n: usize) -> bool
     ensures { result ≡ free_from part protection address n }
 {
@@ -135,8 +130,8 @@ fn are_free(protection: u8, address: u32, n: usize) -> bool
         if left <= room {
             return true;
         }
-        at = at + room as u32;
-        left = left - room;
+        at += room as u32;
+        left -= room;
     }
     true
 }
@@ -145,107 +140,81 @@ fn are_free(protection: u8, address: u32, n: usize) -> bool
 fn is_permitted(protection: u8, address: u32, new: &[u8]) -> bool
     ensures { result ≡ permitted part protection address new.now }
 {
-    if new.len() == 0 {
-        return false;
-    }
-    are_free(protection, address, new.len())
+    !new.is_empty() && are_free(protection, address, new.len())
 }
 
 // Old AND new, byte by byte, and whether every byte then equals its data.
+// By its index: of what a zipped `iter_mut` leaves, a proof knows the length alone.
 fn burn_bytes(bytes: &mut [u8], new: &[u8]) -> bool
     requires { length bytes.old ≡ length new.now }
     ensures { (bytes.new ≡ burn bytes.old new.now)
         × (result ≡ same (burn bytes.old new.now) new.now) }
 {
     let mut good = true;
-    let mut i = 0;
-    while i < new.len() {
+    for (i, byte) in bytes.iter_mut().enumerate() {
         let want = new[i];
-        let left = bytes[i] & want;
-        bytes[i] = left;
-        if left != want {
-            good = false;
-        }
-        i += 1;
+        *byte &= want;
+        good &= *byte == want;
     }
     good
 }
 
 // Programs these bytes from an address on: true if each then equals its data, false if one differs or nothing may be written.
+// It answers a bool, as `erase` does, and no Result: `flash_program_pinned` and `flash_erase_pinned` speak of it, and false is an outcome, from which a status bit follows.
 pub fn program(image: &mut [u8], protection: u8, address: u32, new: &[u8]) -> bool
     ensures { ProgramEnsures image.old protection address new.now result image.new }
 {
-    if image.len() != IMAGE {
-        return false;
-    }
-    if !is_permitted(protection, address, new) {
+    if image.len() != IMAGE || !is_permitted(protection, address, new) {
         return false;
     }
     match block_of(address) {
-        Found::Inside(_, place) => burn_bytes(&mut image[place..place + new.len()], new),
-        Found::Outside => false,
+        Some(spot) => burn_bytes(&mut image[spot.place..spot.place + new.len()], new),
+        None => false,
     }
 }
 
-fn block_from(block: usize) -> usize
+// The places of a block in the image.
+fn extent(block: usize) -> Range<usize>
     requires { block < 4 }
-    ensures { result ≡ block_from part block }
+    ensures { (result.start ≡ block_from part block) × (result.end ≡ block_from part block + block_size part block) }
 {
     match block {
-        0 => 0,
-        1 => 2048,
-        2 => 4096,
-        _ => 12288,
+        0 => 0..2048,
+        1 => 2048..4096,
+        2 => 4096..12288,
+        _ => 12288..20480,
     }
 }
 
-fn block_size(block: usize) -> usize
+// A block becomes FF.
+fn wipe(image: &mut [u8; IMAGE], block: usize)
     requires { block < 4 }
-    ensures { result ≡ block_size part block }
-{
-    if block < 2 { 2048 } else { 8192 }
-}
-
-// n bytes from a place on become FF.
-fn fill(image: &mut [u8], from: usize, n: usize)
-    requires { from + n ≤ length image.old }
-    ensures { image.new ≡ erased from n image.old }
-{
-    let mut i = 0;
-    while i < n {
-        image[from + i] = 0xFF;
-        i += 1;
-    }
-}
-
-fn wipe(image: &mut [u8], block: usize)
-    requires { (block < 4) × (length image.old ≡ 20480) }
     ensures { image.new ≡ wiped part block image.old }
 {
-    fill(image, block_from(block), block_size(block));
+    image[extent(block)].fill(0xFF);
 }
 
 // Erases the block of an address: true if it did, false if the address is outside or the block protected.
 pub fn erase(image: &mut [u8], protection: u8, address: u32) -> bool
     ensures { EraseEnsures image.old protection address result image.new }
 {
-    if image.len() != IMAGE {
+    let Some(image) = image.as_mut_array::<IMAGE>() else {
+        return false;
+    };
+    let Some(spot) = block_of(address) else {
+        return false;
+    };
+    if is_guarded(protection, spot.block) {
         return false;
     }
-    match block_of(address) {
-        Found::Inside(block, _) => {
-            if is_guarded(protection, block) {
-                return false;
-            }
-            wipe(image, block);
-            true
-        }
-        Found::Outside => false,
-    }
+    wipe(image, spot.block);
+    true
 }
 
-fn wipe_free(image: &mut [u8], protection: u8, block: usize)
-    requires { (block < 4) × (length image.old ≡ 20480) }
+// A block becomes FF, unless it is protected.
+#[tactic(auto, unfolding(crate::specs::Image::wiped_free))]
+fn wipe_free(image: &mut [u8; IMAGE], protection: u8, block: usize)
+    requires { block < 4 }
     ensures { image.new ≡ wiped_free part protection block image.old }
 {
     if !is_guarded(protection, block) {
@@ -257,12 +226,10 @@ fn wipe_free(image: &mut [u8], protection: u8, block: usize)
 pub fn erase_all(image: &mut [u8], protection: u8)
     ensures { EraseAllEnsures image.old protection image.new }
 {
-    if image.len() != IMAGE {
+    let Some(image) = image.as_mut_array::<IMAGE>() else {
         return;
-    }
-    let mut i = 0;
-    while i < BLOCKS {
-        wipe_free(image, protection, i);
-        i += 1;
+    };
+    for block in 0..BLOCKS {
+        wipe_free(image, protection, block);
     }
 }

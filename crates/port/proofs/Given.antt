@@ -1,16 +1,16 @@
 -- A call that is not refused hands its inner functions a unit in range, an image of the right size and room for any reply.
 use Prim.Native.Nat.{ℕ, zero, suc, ◌<◌}
-use mathlib.Core.Path.{◌≡◌, sym, ◌∙◌}
+use mathlib.Core.Path.{◌≡◌, ap, sym, ◌∙◌}
 use mathlib.Core.List.{List, [], ◌∷◌}
 use lib.ListN.{length, get_or}
 use Rattle.slices.specs.Lists.{Bytes}
 use Rattle.unit.specs.declared.Unit.{Unit as Port}
 use Rattle.unit.proofs.Ranged.{Sound, sound}
-use Rattle.unit.specs.declared.Inputs.{Inputs}
-use Rattle.unit.specs.Model.{fresh, idle}
-use Rattle.protocol.proofs.Reasons.{StartReason}
-use Rattle.protocol.specs.Calls.{start_call, start_refusal, refusal}
-use Rattle.protocol.proofs.Refusals.{start_exactly, start_done, start_refused, not_refused}
+use Rattle.std.specs.Prelude.{Err}
+use Rattle.protocol.specs.declared.Refused.{Refused}
+use Rattle.protocol.specs.Calls.{Numbered, left, number_of, refusal, refusing, numbered, run_call}
+use Rattle.protocol.proofs.Numbers.{not_none}
+use Rattle.protocol.proofs.Refusals.{not_refused, run_refused}
 use Rattle.port.specs.Parts.{Fine}
 
 pub bytes_each : (xs : List ℕ) → ((i : ℕ) → get_or xs i 0 < 256) → Bytes xs
@@ -25,11 +25,13 @@ given u img area e long small =
 pub fine_sound : {u : Port} {img area : List ℕ} → Fine u img area → Sound u
 fine_sound {u} f = sound u f.ranged f.long f.bytes
 
--- the two answers of a start
-pub refused_start : (img : List ℕ) (inputs : Inputs) (n : ℕ) → StartReason img inputs n → (n ≡ 0 → ⊥) → record { refusal = n; unit = idle } ≡ start_call img inputs
-refused_start img inputs n r some =
-    let e : start_refusal img inputs ≡ n = start_exactly img inputs r in
-    sym (start_refused img inputs (λ z. some (sym e ∙ z)) ∙ rw e)
+-- a call that is refused answers the refusal that was found, and hands the unit back
+module _ (u : Port) (img area : List ℕ) (e : Refused) (h : refusing (number_of e.refusal) e.unit ≡ refusing (refusal u img area) u) where
+  number : number_of e.refusal ≡ refusal u img area
+  number = ap (λ (n : Numbered). n.refusal) h
 
-pub fresh_start : (img : List ℕ) (inputs : Inputs) → StartReason img inputs 0 → record { refusal = 0; unit = fresh img inputs } ≡ start_call img inputs
-fresh_start img inputs r = sym (start_done img inputs (start_exactly img inputs r))
+  some : refusal u img area ≡ 0 → ⊥
+  some z = not_none e.refusal (sym (number ∙ z))
+
+  pub run_says : (bytes : List ℕ) → left (numbered (Err e)) img area ≡ run_call u img bytes area
+  run_says bytes = ap (λ (n : Numbered). left n img area) h ∙ sym (run_refused u img area bytes some)

@@ -1,4 +1,5 @@
-pub mod Answers
+pub mod Steps
+pub mod Areas
 pub mod PacketLaws
 pub mod Given
 pub mod Runs

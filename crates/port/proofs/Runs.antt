@@ -10,20 +10,16 @@ use lib.Seq.{take_all, drop-cons, take_at, drop_at, drop-drop}
 use borrow.Author.Tests.{lt-ltb, le-ltb}
 use Rattle.unit.specs.declared.Unit.{Unit as Port}
 use Rattle.unit.proofs.Ranged.{Sound, in_range_lem}
-use Rattle.protocol.specs.declared.Answer.{Answer}
 use Rattle.protocol.specs.Step.{step}
-use Rattle.protocol.specs.Calls.{Left, left, answered, Walk, walk, walked}
+use Rattle.protocol.specs.Calls.{Left, answered, Walk, walk, walked}
 use Rattle.protocol.proofs.Sound.{sound_step}
-use Rattle.port.specs.Parts.{landed, Fine}
+use Rattle.port.specs.Parts.{done, landed, Fine}
 
 -- a walk after so much has been said and taken
 abbrev pub after : List ℕ → ℕ → Walk → Walk
 after said n w = walk w.outcome.unit w.outcome.image (said ++ w.outcome.reply) (n + w.taken)
 
 module _ (room : ℕ) (u : Port) (img bytes said : List ℕ) (n : ℕ) where
-  pub walk_ends : length bytes ≤ n → after said n (walked room u img (drop n bytes)) ≡ walk u img said n
-  walk_ends h = rw (drop_of_length-le bytes h, append-nil, add-zero)
-
   pub walk_stops : n < length bytes → room < 256 → after said n (walked room u img (drop n bytes)) ≡ walk u img said n
   walk_stops h r = rw (drop-cons bytes n 0 h, lt-ltb room 256 r, append-nil, add-zero)
 
@@ -67,23 +63,23 @@ area_more area₀ said rep area used k l e h =
 
 module _ (img₀ bytes area₀ : List ℕ) (u₀ : Port) (img area : List ℕ) (u : Port) (taken used : ℕ) (r : Running img₀ bytes area₀ u₀ img area u taken used) where
   -- a turn: one byte more
-  pub turn : taken < length bytes → 256 ≤ length area - used → get_or bytes taken 0 < 256 → (a : Answer) (img' ys : List ℕ)
-      → left a img' ys ≡ answered (step u img (get_or bytes taken 0)) 1 (take (length area - used) (drop used area))
+  pub turn : taken < length bytes → 256 ≤ length area - used → get_or bytes taken 0 < 256 → (v : Port) (k : ℕ) (img' ys : List ℕ)
+      → done v 1 k img' ys ≡ answered (step u img (get_or bytes taken 0)) 1 (take (length area - used) (drop used area))
       → length img' ≡ length img → length ys ≡ length (take (length area - used) (drop used area))
-      → Running img₀ bytes area₀ u₀ img' (take used area ++ (ys ++ drop (length area - used) (drop used area))) a.unit (taken + 1) (used + a.reply_len)
-  turn more room small a img' ys e li ly =
+      → Running img₀ bytes area₀ u₀ img' (take used area ++ (ys ++ drop (length area - used) (drop used area))) v (taken + 1) (used + k)
+  turn more room small v k img' ys e li ly =
       let b : ℕ = get_or bytes taken 0 in
       let rep : List ℕ = (step u img b).reply in
       let p : take (length area - used) (drop used area) ≡ drop used area₀ = part_is area₀ r.said area used (length area - used) r.spoken r.area_is (omega arith) in
-      let fu : a.unit ≡ (step u img b).unit = ap (λ (o : Left). o.answer.unit) e in
-      let fn : a.reply_len ≡ length rep = ap (λ (o : Left). o.answer.reply_len) e in
+      let fu : v ≡ (step u img b).unit = ap (λ (o : Left). o.answer.unit) e in
+      let fn : k ≡ length rep = ap (λ (o : Left). o.answer.reply_len) e in
       let fi : img' ≡ (step u img b).image = ap (λ (o : Left). o.image) e in
       let fy : ys ≡ rep ++ drop (length rep) (drop used area₀) = ap (λ (o : Left). o.area) e ∙ rw p in
       let ln : length rep + (length area₀ - used - length rep) ≡ length area₀ - used =
       sym (ap length fy ∙ simp (length-append, length-drop)) ∙ ly ∙ ap length p ∙ length-drop used area₀ in
-      let ai : take used area ++ (ys ++ drop (length area - used) (drop used area)) ≡ (r.said ++ rep) ++ drop (used + a.reply_len) area₀ =
+      let ai : take used area ++ (ys ++ drop (length area - used) (drop used area)) ≡ (r.said ++ rep) ++ drop (used + k) area₀ =
       rw (fy, fn) (area_more area₀ r.said rep area used (length area - used) r.spoken r.area_is (omega arith)) in
-      let left_over : length area₀ - (used + a.reply_len) ≡ length area₀ - used - length rep = omega arith in
+      let left_over : length area₀ - (used + k) ≡ length area₀ - used - length rep = omega arith in
       record {
         said = r.said ++ rep;
         spoken = rw (length-append, r.spoken, fn);
@@ -99,7 +95,7 @@ module _ (img₀ bytes area₀ : List ℕ) (u₀ : Port) (img area : List ℕ) (
 
   -- where a run stops
   pub stopped : after r.said taken (walked (length area₀ - used) u img (drop taken bytes)) ≡ walk u img r.said taken
-      → left (record { refusal = 0; unit = u; taken = taken; reply_len = used }) img area ≡ landed (walked (length area₀) u₀ img₀ bytes) area₀
+      → done u taken used img area ≡ landed (walked (length area₀) u₀ img₀ bytes) area₀
   stopped e = rw (sym r.rest ∙ e, r.spoken, r.area_is)
 
   -- what the next byte is given: the unit, the image, and what is left of the area

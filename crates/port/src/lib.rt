@@ -1,216 +1,127 @@
-// The port: a start, a byte of the line, a run of bytes. By value at the edge; inside, the collected bytes are lent, so that no byte copies them.
+// The port: a start, a byte of the line, a run of bytes. By value at the edge; inside, the unit is lent, so that no byte copies it.
 #![tactic(auto)]
 
 use commands::Said;
-use protocol::{Answer, Started};
-use unit::{Inputs, Phase, Place, Settings, State, Unit};
+use packets::Packet;
+use protocol::{Answer, Refusal, Refused};
+use unit::{Inputs, Phase, Place, Unit};
 
-mod collect;
 mod packets;
 
-ghost use Rattle.std.specs.Prelude.{◌≡◌, ◌++◌, ◌≤◌, length, take, drop};
-ghost use Rattle.unit.specs.Model.{whole};
+ghost use Rattle.std.specs.Prelude.{◌≡◌, ◌≤◌, List, ℕ, length};
 ghost use Rattle.protocol.specs.Step.{step};
-ghost use Rattle.protocol.specs.Calls.{StartEnsures, ByteEnsures, RunEnsures, refusal, refusing, answered, walked};
-ghost use Rattle.port.specs.Parts.{took, went, landed, Fine};
+ghost use Rattle.protocol.specs.Calls.{StartEnsures, ByteEnsures, RunEnsures, refusal, refusing, started, numbered, answered, walked};
+ghost use Rattle.commands.specs.Clauses.{said};
+ghost use Rattle.port.specs.Parts.{done, landed, found, Fine};
 
-// What a byte leads to inside: the state, and the reply's length.
-#[derive(Clone, Copy)]
-pub(crate) struct Took {
-    pub(crate) state: State,
-    pub(crate) len: usize,
-}
-
-// What a run leads to inside.
-#[derive(Clone, Copy)]
-struct Went {
-    state: State,
-    taken: usize,
-    len: usize,
-}
-
-// A start: the fresh unit, or a refusal and the idle unit.
-pub fn start(image: &[u8], inputs: Inputs) -> Started
-    ensures { StartEnsures image.now inputs result }
+// A start: the fresh unit, or a refusal, which hands back the idle one.
+#[tactic(auto, unfolding(protocol::specs::Calls::start_call, protocol::specs::Calls::start_refusal, flash::specs::Blocks::sized))]
+pub fn start(image: &[u8], inputs: Inputs) -> Result<Unit, Refused>
+    ensures { StartEnsures image.now inputs (started result) }
 {
     if image.len() != flash::IMAGE {
-        return Started {
-            refusal: 1,
+        return Err(Refused {
+            refusal: Refusal::Image,
             unit: Unit::idle(),
-        };
+        });
     }
     if Unit::MAX_PROTECTION < inputs.protection {
-        return Started {
-            refusal: 2,
+        return Err(Refused {
+            refusal: Refusal::Protection,
             unit: Unit::idle(),
-        };
+        });
     }
-    Started {
-        refusal: 0,
-        unit: Unit::fresh(image, inputs),
-    }
+    Ok(Unit::fresh(image, inputs))
 }
 
-// Why a byte or a run is refused: the lowest number, or 0.
-fn refusal_of(u: Unit, image: &[u8], reply: &[u8]) -> u8
-    ensures { result ≡ refusal u image.now reply.now }
+// Whether a byte or a run is refused, and why.
+#[tactic(auto, unfolding(protocol::specs::Calls::refusal, flash::specs::Blocks::sized))]
+fn check(u: &Unit, image: &[u8], reply: &[u8]) -> Result<(), Refused>
+    ensures { found u.now result ≡ refusing (refusal u.now image.now reply.now) u.now }
 {
-    if image.len() != flash::IMAGE {
-        return 1;
-    }
-    if reply.len() < flash::PAGE {
-        return 3;
-    }
-    if u.in_range() { 0 } else { 4 }
+    let refusal = if image.len() != flash::IMAGE {
+        Refusal::Image
+    } else if reply.len() < flash::PAGE {
+        Refusal::Area
+    } else if !u.in_range() {
+        Refusal::Unit
+    } else {
+        return Ok(());
+    };
+    Err(Refused { refusal, unit: *u })
 }
 
-fn refuse(refusal: u8, u: Unit) -> Answer
-    ensures { result ≡ refusing refusal u }
+// What a byte outside packets has led to: the unit takes its state, and the area its reply at the front. How long the reply is.
+fn answer(u: &mut Unit, outcome: Said, reply: &mut [u8]) -> usize
+    requires { 256 ≤ length reply.old }
+    ensures { (image : List ℕ) → done u.new 1 result image reply.new
+        ≡ answered (said outcome u.old.settings u.old.collected image) 1 reply.old }
 {
-    Answer {
-        refusal: refusal,
-        unit: u,
-        taken: 0,
-        reply_len: 0,
-    }
+    u.phase = outcome.state.phase;
+    u.registers = outcome.state.registers;
+    outcome.reply.put(reply)
 }
 
-// A reply that was handed back by value, at the front of the reply area.
-fn answer(reply: &mut [u8], said: Said) -> Took
-    requires { (said.len ≤ 8) × (256 ≤ length reply.old) }
-    ensures { (result ≡ record { state = said.state; len = said.len }) × (reply.new ≡ take said.len said.reply ++ drop said.len reply.old) }
+// A byte that is not refused. How long its reply is. What `Fine` says of the three that are lent, and its 256 bytes of room below, is no struct: each is lent on by itself, and `answered` speaks of the whole area.
+#[tactic(auto, using(crate::proofs::Steps::step_says), unfolding(protocol::specs::Step::step_at))]
+fn step_in(u: &mut Unit, image: &mut [u8], reply: &mut [u8], b: u8) -> usize
+    requires { Fine u.old image.old reply.old }
+    ensures { done u.new 1 result image.new reply.new ≡ answered (step u.old image.old b) 1 reply.old }
 {
-    let bytes = said.reply;
-    let state = said.state;
-    slices::copy(reply, &bytes[..said.len]);
-    Took {
-        state: state,
-        len: said.len,
-    }
-}
-
-// A byte that is not refused.
-fn step_in(
-    s: State,
-    settings: Settings,
-    collected: &mut [u8; 259],
-    image: &mut [u8],
-    reply: &mut [u8],
-    b: u8,
-) -> Took
-    requires { Fine (whole s settings collected.old) image.old reply.old }
-    ensures { took result settings collected.new image.new reply.new
-        ≡ answered (step (whole s settings collected.old) image.old b) 1 reply.old }
-{
-    let phase = s.phase;
-    match phase {
-        Phase::Asleep(n) => answer(reply, commands::asleep(s, n, b)),
-        Phase::Awake(place) => match place {
-            Place::Command => answer(reply, commands::commanded(s, collected, b)),
-            Place::PageRead(n) => packets::page_read(s, n, collected, image, reply, b),
-            Place::PageProgram(n) => Took {
-                state: packets::page_program(s, settings, n, collected, image, b),
-                len: 0,
-            },
-            Place::UnitProgram(n) => Took {
-                state: packets::unit_program(s, settings, n, collected, image, b),
-                len: 0,
-            },
-            Place::BlockErase(n) => Took {
-                state: packets::block_erase(s, settings, n, collected, image, b),
-                len: 0,
-            },
-            Place::EraseAll(n) => Took {
-                state: packets::erase_all(s, settings, n, collected, image, b),
-                len: 0,
-            },
-            Place::IdCheck(n) => Took {
-                state: packets::id_check(s, settings, n, collected, image, b),
-                len: 0,
-            },
-        },
-    }
-}
-
-// A byte of the line: it asks nothing of its caller, and refuses what it cannot take.
-pub fn byte(u: Unit, image: &mut [u8], reply: &mut [u8], b: u8) -> Answer
-    ensures { ByteEnsures u image.old reply.old b result image.new reply.new }
-{
-    let no = refusal_of(u, image, reply);
-    if no != 0 {
-        return refuse(no, u);
-    }
-    let mut collected = u.collected;
-    let settings = u.settings;
-    let s = step_in(u.state(), settings, &mut collected, image, reply, b);
-    let state = s.state;
-    Answer {
-        refusal: 0,
-        unit: Unit::of(state, settings, collected),
-        taken: 1,
-        reply_len: s.len,
-    }
-}
-
-// A run that is not refused: byte by byte, while a reply of 256 bytes still fits.
-fn run_in(
-    begin: State,
-    settings: Settings,
-    collected: &mut [u8; 259],
-    image: &mut [u8],
-    bytes: &[u8],
-    reply: &mut [u8],
-) -> Went
-    requires { Fine (whole begin settings collected.old) image.old reply.old }
-    ensures { went result settings collected.new image.new reply.new
-        ≡ landed (walked (length reply.old) (whole begin settings collected.old) image.old bytes.now) reply.old }
-{
-    let mut state = begin;
-    let mut taken = 0;
-    let mut used = 0;
-    while taken < bytes.len() {
-        if reply.len() - used < flash::PAGE {
-            return Went {
-                state: state,
-                taken: taken,
-                len: used,
-            };
+    // an arm for each place, so that each has its own path through `Packet::take` (see there)
+    match u.phase {
+        Phase::Asleep(n) => {
+            let outcome = commands::asleep(u.state(), n, b);
+            answer(u, outcome, reply)
         }
-        let s = step_in(
-            state,
-            settings,
-            collected,
-            image,
-            &mut reply[used..],
-            bytes[taken],
-        );
-        state = s.state;
-        used = used + s.len;
-        taken = taken + 1;
-    }
-    Went {
-        state: state,
-        taken: taken,
-        len: used,
+        Phase::Awake(Place::Command) => {
+            let outcome = commands::commanded(u.state(), &mut u.collected, b);
+            answer(u, outcome, reply)
+        }
+        Phase::Awake(Place::PageRead(n)) => Packet::PageRead.take(n, u, image, reply, b),
+        Phase::Awake(Place::PageProgram(n)) => Packet::PageProgram.take(n, u, image, reply, b),
+        Phase::Awake(Place::UnitProgram(n)) => Packet::UnitProgram.take(n, u, image, reply, b),
+        Phase::Awake(Place::BlockErase(n)) => Packet::BlockErase.take(n, u, image, reply, b),
+        Phase::Awake(Place::EraseAll(n)) => Packet::EraseAll.take(n, u, image, reply, b),
+        Phase::Awake(Place::IdCheck(n)) => Packet::IdCheck.take(n, u, image, reply, b),
     }
 }
 
-// A run of bytes: its bytes one by one, replies joined.
-pub fn run(u: Unit, image: &mut [u8], bytes: &[u8], reply: &mut [u8]) -> Answer
-    ensures { RunEnsures u image.old reply.old bytes.now result image.new reply.new }
+// A run that is not refused: byte by byte, while a reply of 256 bytes still fits. How many bytes it took, and how long its reply is.
+fn run_in(u: &mut Unit, image: &mut [u8], bytes: &[u8], reply: &mut [u8]) -> (usize, usize)
+    requires { Fine u.old image.old reply.old }
+    ensures { done u.new result.0 result.1 image.new reply.new
+        ≡ landed (walked (length reply.old) u.old image.old bytes.now) reply.old }
 {
-    let no = refusal_of(u, image, reply);
-    if no != 0 {
-        return refuse(no, u);
+    let mut used = 0;
+    for (taken, b) in bytes.iter().enumerate() {
+        if reply.len() - used < flash::PAGE {
+            return (taken, used);
+        }
+        let len = step_in(u, image, &mut reply[used..], *b);
+        used += len;
     }
-    let mut collected = u.collected;
-    let settings = u.settings;
-    let w = run_in(u.state(), settings, &mut collected, image, bytes, reply);
-    let state = w.state;
-    Answer {
-        refusal: 0,
-        unit: Unit::of(state, settings, collected),
-        taken: w.taken,
-        reply_len: w.len,
-    }
+    (bytes.len(), used)
+}
+
+// A run of bytes: one by one, replies joined. It asks nothing of its caller, and refuses what it cannot take.
+pub fn run(u: Unit, image: &mut [u8], bytes: &[u8], reply: &mut [u8]) -> Result<Answer, Refused>
+    ensures { RunEnsures u image.old reply.old bytes.now (numbered result) image.new reply.new }
+{
+    check(&u, image, reply)?;
+    let mut unit = u;
+    let (count, len) = run_in(&mut unit, image, bytes, reply);
+    Ok(Answer {
+        unit,
+        taken: count,
+        reply_len: len,
+    })
+}
+
+// A byte of the line: a run of one byte.
+#[tactic(auto, using(protocol::proofs::Runs::run_of_one))]
+pub fn byte(u: Unit, image: &mut [u8], reply: &mut [u8], b: u8) -> Result<Answer, Refused>
+    ensures { ByteEnsures u image.old reply.old b (numbered result) image.new reply.new }
+{
+    run(u, image, &[b], reply)
 }

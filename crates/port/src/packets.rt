@@ -1,60 +1,134 @@
-// A byte inside a packet, n bytes after its command: collected, or the packet's last, at which alone it acts.
-ghost use Rattle.std.specs.Prelude.{◌≡◌, List, ℕ, ◌+◌, ◌≤◌, ◌<◌, length, get_or, take};
+// The packets of more than one byte: each byte is collected, and the last acts on all of them.
+ghost use Rattle.std.specs.Prelude.{◌≡◌, ◌≤◌, length, get_or, take};
 ghost use Rattle.flash.specs.Blocks.{byte_address};
-ghost use Rattle.unit.specs.Phases.{need};
-ghost use Rattle.unit.specs.Phases.Kind.{page_read, page_program, unit_program, block_erase, all_erase, id_check};
-ghost use Rattle.unit.specs.Model.{whole};
-ghost use Rattle.protocol.specs.Endings.{is_right, after_check, finished};
+ghost use Rattle.unit.specs.Phases.{Kind, need, inside, position_of};
+ghost use Rattle.unit.specs.Phases.Kind.{page_program, unit_program, block_erase, id_check};
+ghost use Rattle.unit.specs.Phases.Position.{within};
+ghost use Rattle.unit.specs.Model.{ended};
+ghost use Rattle.protocol.specs.Outcome.{quiet};
+ghost use Rattle.protocol.specs.Endings.{finished};
 ghost use Rattle.protocol.specs.Step.{in_packet};
 ghost use Rattle.protocol.specs.Calls.{answered};
-ghost use Rattle.acts.specs.Clauses.{after_packet};
-ghost use Rattle.port.specs.Parts.{took, silent};
+ghost use Rattle.port.specs.Parts.{kind_of, done, all_of, Fine};
 
-use super::{Took, collect};
-use unit::{Phase, Place, Registers, Settings, State};
+use unit::{Phase, Place, Registers, Unit};
 
 // How far the low 16 address bits and the size of a program may reach: a page program to the end of a bank of 64 KiB, a unit program not to its last byte.
 const PAGE_PROGRAM_MOST: usize = 65536;
 
 const UNIT_PROGRAM_MOST: usize = 65535;
 
-pub(crate) fn page_read(
-    s: State,
-    n: usize,
-    collected: &mut [u8; 259],
-    image: &[u8],
-    reply: &mut [u8],
-    b: u8,
-) -> Took
-    requires { (n < 2) × (length collected.old ≡ 259) × (256 ≤ length reply.old) }
-    ensures { (t : Settings) → took result t collected.new image.now reply.new
-        ≡ answered (in_packet page_read n (whole s t collected.old) image.now b) 1 reply.old }
-{
-    collect::store(collected, n, b);
-    if n == 0 {
-        return Took {
-            state: s.at(Phase::Awake(Place::PageRead(1))),
-            len: 0,
-        };
+// Which packet. `Place` has the count in each case too: the record of a unit is so, and the theorems and `wrong/` name its cases.
+#[derive(Clone, Copy)]
+pub(crate) enum Packet {
+    PageRead,
+    PageProgram,
+    UnitProgram,
+    BlockErase,
+    EraseAll,
+    IdCheck,
+}
+
+impl Packet {
+    // The place so many bytes after its command.
+    fn place(self, n: usize) -> Place
+        ensures { result ≡ inside (kind_of self) n }
+    {
+        match self {
+            Packet::PageRead => Place::PageRead(n),
+            Packet::PageProgram => Place::PageProgram(n),
+            Packet::UnitProgram => Place::UnitProgram(n),
+            Packet::BlockErase => Place::BlockErase(n),
+            Packet::EraseAll => Place::EraseAll(n),
+            Packet::IdCheck => Place::IdCheck(n),
+        }
     }
-    acts::show_page(image, reply, collected[0], collected[1]);
-    commands::clear(collected);
-    let registers = s.registers;
-    Took {
-        state: State::at_command(registers),
-        len: flash::PAGE,
+
+    // How many bytes follow its command: the fourth of a sized packet is its size. `unit::place_fits` reads the same constants: a function that hands them out would be longer than its five cases.
+    #[tactic(auto, unfolding(unit::specs::Phases::need))]
+    fn need(self, collected: &[u8; 259]) -> usize
+        ensures { result ≡ need (kind_of self) collected.now }
+    {
+        match self {
+            Packet::PageRead => Unit::PAGE_READ,
+            Packet::PageProgram => Unit::PAGE_PROGRAM,
+            Packet::UnitProgram | Packet::IdCheck => Unit::SIZED + collected[3] as usize,
+            Packet::BlockErase => Unit::BLOCK_ERASE,
+            Packet::EraseAll => Unit::ERASE_ALL,
+        }
+    }
+
+    // A byte inside this packet, n bytes after its command: collected, or the packet's last, at which alone it acts. How long its reply is.
+    // Inlined, and `end` not, so that each arm of the step has a short path of its own: without the two hints a page program took more than twice as long.
+    #[inline(always)]
+    pub(crate) fn take(
+        self,
+        n: usize,
+        u: &mut Unit,
+        image: &mut [u8],
+        reply: &mut [u8],
+        b: u8,
+    ) -> usize
+        requires fine { Fine u.old image.old reply.old }
+        requires place { position_of u.old.phase ≡ within (kind_of self) n }
+        ensures { done u.new 1 result image.new reply.new
+            ≡ answered (in_packet (kind_of self) n u.old image.old b) 1 reply.old }
+    {
+        u.collected[n] = b;
+        if n + 1 < self.need(&u.collected) {
+            u.phase = Phase::Awake(self.place(n + 1));
+            return 0;
+        }
+        self.end(u, image, reply)
+    }
+
+    // Its bytes have all come: it acts, and the unit is at a command again. How long its reply is.
+    #[inline(never)]
+    #[tactic(auto, unfolding(unit::specs::Model::ended))]
+    fn end(self, u: &mut Unit, image: &mut [u8], reply: &mut [u8]) -> usize
+        requires { 256 ≤ length reply.old }
+        ensures { done u.new 1 result image.new reply.new
+            ≡ answered (finished (kind_of self) u.old image.old (all_of (kind_of self) u.old.collected)) 1 reply.old }
+    {
+        let (registers, len) = self.finish(u, image, reply);
+        u.phase = Phase::Awake(Place::Command);
+        u.registers = registers;
+        commands::clear(&mut u.collected);
+        len
+    }
+
+    // What its bytes do once they have all come: the registers, and how long the reply is.
+    fn finish(self, u: &Unit, image: &mut [u8], reply: &mut [u8]) -> (Registers, usize)
+        requires { 256 ≤ length reply.old }
+        ensures { done (ended u.now result.0) 1 result.1 image.new reply.new
+            ≡ answered (finished (kind_of self) u.now image.old (all_of (kind_of self) u.now.collected)) 1 reply.old }
+    {
+        match self {
+            Packet::PageRead => {
+                acts::show_page(image, reply, u.collected[0], u.collected[1]);
+                (u.registers, flash::PAGE)
+            }
+            Packet::PageProgram => (program_page(u, image), 0),
+            Packet::UnitProgram => (program_unit(u, image), 0),
+            Packet::BlockErase => (erase_block(u, image), 0),
+            Packet::EraseAll => (
+                acts::erase_all(u.state(), u.settings, image, u.collected[0]),
+                0,
+            ),
+            Packet::IdCheck => (check_id(u, image), 0),
+        }
     }
 }
 
-// A page program whose bytes `xs` have all come.
-fn program_page(s: State, settings: Settings, image: &mut [u8], xs: &[u8]) -> Registers
-    requires { length xs.now ≡ 259 }
-    ensures { (got : List ℕ) → after_packet settings result image.new
-        ≡ finished page_program (whole s settings got) image.old (take 258 xs.now) }
+// A page program: two bytes of address, and the page.
+fn program_page(u: &Unit, image: &mut [u8]) -> Registers
+    ensures { quiet (ended u.now result) image.new
+        ≡ finished page_program u.now image.old (all_of page_program u.now.collected) }
 {
+    let xs = &u.collected;
     acts::program(
-        s,
-        settings,
+        u.state(),
+        u.settings,
         image,
         flash::page_address(xs[0], xs[1]),
         &xs[2..258],
@@ -62,137 +136,46 @@ fn program_page(s: State, settings: Settings, image: &mut [u8], xs: &[u8]) -> Re
     )
 }
 
-pub(crate) fn page_program(
-    s: State,
-    settings: Settings,
-    n: usize,
-    collected: &mut [u8; 259],
-    image: &mut [u8],
-    b: u8,
-) -> State
-    requires { (n < 258) × (length collected.old ≡ 259) }
-    ensures { silent result settings collected.new image.new
-        ≡ in_packet page_program n (whole s settings collected.old) image.old b }
-{
-    collect::store(collected, n, b);
-    if n < 257 {
-        return s.at(Phase::Awake(Place::PageProgram(n + 1)));
-    }
-    let registers = program_page(s, settings, image, collected);
-    commands::clear(collected);
-    State::at_command(registers)
-}
-
 fn byte_address(low: u8, mid: u8, high: u8) -> u32
     ensures { result ≡ byte_address low mid high }
 {
-    (low as u32) + (mid as u32) * 256 + (high as u32) * 65536
+    u32::from_le_bytes([low, mid, high, 0])
 }
 
-// A unit program whose bytes `xs` have all come: its fourth is its size.
-fn program_unit(s: State, settings: Settings, image: &mut [u8], xs: &[u8]) -> Registers
-    requires { length xs.now ≡ 259 }
-    ensures { (got : List ℕ) → after_packet settings result image.new
-        ≡ finished unit_program (whole s settings got) image.old (take (4 + get_or xs.now 3 0) xs.now) }
+// A unit program: three bytes of address, the size, and so many bytes. Beside a page program address, bytes and reach differ: one function for both would have these three as arguments, as `acts::program` does.
+fn program_unit(u: &Unit, image: &mut [u8]) -> Registers
+    ensures { quiet (ended u.now result) image.new
+        ≡ finished unit_program u.now image.old (all_of unit_program u.now.collected) }
 {
-    let n = xs[3] as usize;
+    let xs = &u.collected;
+    let size = xs[3] as usize;
     acts::program(
-        s,
-        settings,
+        u.state(),
+        u.settings,
         image,
         byte_address(xs[0], xs[1], xs[2]),
-        &xs[4..4 + n],
+        &xs[4..4 + size],
         UNIT_PROGRAM_MOST,
     )
 }
 
-pub(crate) fn unit_program(
-    s: State,
-    settings: Settings,
-    n: usize,
-    collected: &mut [u8; 259],
-    image: &mut [u8],
-    b: u8,
-) -> State
-    requires { (n < 259) × (length collected.old ≡ 259) × (n < need unit_program (take n collected.old)) }
-    ensures { silent result settings collected.new image.new
-        ≡ in_packet unit_program n (whole s settings collected.old) image.old b }
+// A block erase: two bytes of address, and the confirm byte.
+fn erase_block(u: &Unit, image: &mut [u8]) -> Registers
+    ensures { quiet (ended u.now result) image.new
+        ≡ finished block_erase u.now image.old (all_of block_erase u.now.collected) }
 {
-    collect::store(collected, n, b);
-    if collect::goes_on(n, collected[3]) {
-        return s.at(Phase::Awake(Place::UnitProgram(n + 1)));
-    }
-    let registers = program_unit(s, settings, image, collected);
-    commands::clear(collected);
-    State::at_command(registers)
+    let xs = &u.collected;
+    let address = flash::page_address(xs[0], xs[1]);
+    acts::erase(u.state(), u.settings, image, address, xs[2])
 }
 
-pub(crate) fn block_erase(
-    s: State,
-    settings: Settings,
-    n: usize,
-    collected: &mut [u8; 259],
-    image: &mut [u8],
-    b: u8,
-) -> State
-    requires { (n < 3) × (length collected.old ≡ 259) }
-    ensures { silent result settings collected.new image.new
-        ≡ in_packet block_erase n (whole s settings collected.old) image.old b }
+// An ID check: all that followed F5 is compared.
+#[tactic(auto, unfolding(protocol::specs::Endings::finished, unit::specs::Phases::need))]
+fn check_id(u: &Unit, image: &[u8]) -> Registers
+    ensures { quiet (ended u.now result) image.now
+        ≡ finished id_check u.now image.now (all_of id_check u.now.collected) }
 {
-    collect::store(collected, n, b);
-    if n < 2 {
-        return s.at(Phase::Awake(Place::BlockErase(n + 1)));
-    }
-    let address = flash::page_address(collected[0], collected[1]);
-    let registers = acts::erase(s, settings, image, address, collected[2]);
-    commands::clear(collected);
-    State::at_command(registers)
-}
-
-// The one byte of an erase of all blocks: its confirm byte.
-pub(crate) fn erase_all(
-    s: State,
-    settings: Settings,
-    n: usize,
-    collected: &mut [u8; 259],
-    image: &mut [u8],
-    b: u8,
-) -> State
-    requires { n < 1 }
-    ensures { silent result settings collected.new image.new
-        ≡ in_packet all_erase n (whole s settings collected.old) image.old b }
-{
-    let registers = acts::erase_all(s, settings, image, b);
-    commands::clear(collected);
-    State::at_command(registers)
-}
-
-// An ID check whose bytes `xs` have all come: their fourth is the size.
-fn check_packet(registers: Registers, settings: Settings, image: &[u8], xs: &[u8]) -> Registers
-    requires { length xs.now ≡ 259 }
-    ensures { result ≡ after_check settings.blank registers (is_right image.now (take (4 + get_or xs.now 3 0) xs.now)) }
-{
-    let n = 4 + xs[3] as usize;
-    acts::check_id(registers, settings, image, &xs[..n])
-}
-
-pub(crate) fn id_check(
-    s: State,
-    settings: Settings,
-    n: usize,
-    collected: &mut [u8; 259],
-    image: &[u8],
-    b: u8,
-) -> State
-    requires { (n < 259) × (length collected.old ≡ 259) × (n < need id_check (take n collected.old)) }
-    ensures { silent result settings collected.new image.now
-        ≡ in_packet id_check n (whole s settings collected.old) image.now b }
-{
-    collect::store(collected, n, b);
-    if collect::goes_on(n, collected[3]) {
-        return s.at(Phase::Awake(Place::IdCheck(n + 1)));
-    }
-    let registers = check_packet(s.registers, settings, image, collected);
-    commands::clear(collected);
-    State::at_command(registers)
+    let xs = &u.collected;
+    let size = xs[3] as usize;
+    acts::check_id(u.registers, u.settings, image, &xs[..4 + size])
 }

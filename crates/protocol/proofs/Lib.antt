@@ -1,4 +1,5 @@
 pub mod Reasons
+pub mod Numbers
 pub mod Carried
 pub mod Steps
 pub mod Mismatches

@@ -8,8 +8,8 @@ use mathlib.Core.List.{List, []}
 use lib.ListN.{length}
 use lib.Dec.{eqb}
 use borrow.Author.Tests.{eq-eqb, ne_eqb}
-use Rattle.flash.specs.declared.Found.TheVariants.{Inside, Outside}
-use Rattle.flash.specs.Blocks.{part, find, sized, guarded, free, page_address}
+use Rattle.std.proofs.Common.{Some, None}
+use Rattle.flash.specs.Blocks.{spot, part, find, sized, guarded, free, page_address}
 use Rattle.flash.specs.Image.{Written, written, wiped, erase_block, erase_all}
 use Rattle.flash.specs.Effects.{Erased}
 use Rattle.flash.proofs.Outcomes.{true_sized, erase_refused, erase_done}
@@ -96,15 +96,15 @@ module _ {u : Port} (ready : Ready u) (opened : is_open u.registers ≡ true) (i
         ended_by is (srd_is u.registers 0xA0) (Kept img) img refl (confirmed is h refl (written img false) (erase_refused part u.settings.protection img a e))
 
     -- P15: otherwise block erase of an outside block sets SR5
-    pub erase_outside : find part a ≡ Outside → Ends u (srd_is u.registers 0xA0) (Kept img) [] (run u img packet)
+    pub erase_outside : find part a ≡ None → Ends u (srd_is u.registers 0xA0) (Kept img) [] (run u img packet)
     erase_outside e = not_erased (not_free_outside u.settings.protection e)
 
     -- P15: and so does block erase of a protected block
-    pub erase_protected : {i k : ℕ} → find part a ≡ Inside i k → u.settings.protection / 2 ^ i % 2 ≡ 1 → Ends u (srd_is u.registers 0xA0) (Kept img) [] (run u img packet)
+    pub erase_protected : {i k : ℕ} → find part a ≡ Some (spot i k) → u.settings.protection / 2 ^ i % 2 ≡ 1 → Ends u (srd_is u.registers 0xA0) (Kept img) [] (run u img packet)
     erase_protected e z = not_erased (not_free_protected u.settings.protection e z)
 
     -- P15, P4: else the block becomes FF, by any address in the block
-    pub erase_block_lem : length img ≡ 20480 → {i k : ℕ} → find part a ≡ Inside i k → u.settings.protection / 2 ^ i % 2 ≡ 0 → Ends u u.registers (Erased part (λ (j : ℕ). eqb j i) img) [] (run u img packet)
+    pub erase_block_lem : length img ≡ 20480 → {i k : ℕ} → find part a ≡ Some (spot i k) → u.settings.protection / 2 ^ i % 2 ≡ 0 → Ends u u.registers (Erased part (λ (j : ℕ). eqb j i) img) [] (run u img packet)
     erase_block_lem size {i} {k} e z =
         let s : sized part img ≡ true = true_sized part img size in
         ended_by is u.registers (Erased part (λ (j : ℕ). eqb j i) img) (wiped part i img) (block_effect part img s a i k e)

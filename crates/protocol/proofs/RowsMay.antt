@@ -9,9 +9,9 @@ use mathlib.Core.List.{List}
 use lib.ListN.{length}
 use lib.Dec.{ltb}
 use borrow.Author.Tests.{eqb-true, eqb-false, eq-eqb, lt-ltb, not-false}
-use Rattle.flash.specs.declared.Found.{Found}
-use Rattle.flash.specs.declared.Found.TheVariants.{Inside, Outside}
-use Rattle.flash.specs.Blocks.{part, find, guarded, free}
+use Rattle.flash.specs.declared.Spot.{Spot}
+use Rattle.std.proofs.Common.{Option, Some, None}
+use Rattle.flash.specs.Blocks.{spot, part, find, guarded, free}
 use Rattle.flash.specs.Image.{free_from, permitted}
 use Rattle.slices.proofs.Lists.{both_and}
 use Rattle.flash.proofs.Permits.{free_found, permitted_is, permitted_free, all_free}
@@ -51,16 +51,16 @@ module _ (p i : ℕ) where
   clear_bit e = omega (arith, eqb-false (p / 2 ^ i % 2) 1 e)
 
 -- an address that may be programmed, and one that may not
-module _ (p : ℕ) {w : Found} where
-  pub free_inside : {i k : ℕ} → w ≡ Inside i k → p / 2 ^ i % 2 ≡ 0 → free p w ≡ true
+module _ (p : ℕ) {w : Option Spot} where
+  pub free_inside : {i k : ℕ} → w ≡ Some (spot i k) → p / 2 ^ i % 2 ≡ 0 → free p w ≡ true
   unfolding free
   free_inside {i} e z = ap (free p) e ∙ ap not (bit_clear p i z)
 
-  pub not_free_outside : w ≡ Outside → free p w ≡ false
+  pub not_free_outside : w ≡ None → free p w ≡ false
   unfolding free
   not_free_outside e = ap (free p) e
 
-  pub not_free_protected : {i k : ℕ} → w ≡ Inside i k → p / 2 ^ i % 2 ≡ 1 → free p w ≡ false
+  pub not_free_protected : {i k : ℕ} → w ≡ Some (spot i k) → p / 2 ^ i % 2 ≡ 1 → free p w ≡ false
   unfolding free
   not_free_protected {i} e z = ap (free p) e ∙ ap not (bit_set p i z)
 
@@ -88,10 +88,10 @@ module _ (most p a : ℕ) (ds : List ℕ) where
   may_not_permitted (outside j h e) = inr (forbids j h (not_free_outside p e))
   may_not_permitted (protected j i k h e z) = inr (forbids j h (not_free_protected p e z))
 
-  which : (j : ℕ) → j < length ds → free p (find part (a + j)) ≡ false → (w : Found) → find part (a + j) ≡ w → MayNot most p a ds
+  which : (j : ℕ) → j < length ds → free p (find part (a + j)) ≡ false → (w : Option Spot) → find part (a + j) ≡ w → MayNot most p a ds
   unfolding free
-  which j h e (Inside i k) q = protected j i k h q (set_bit p i (not-false (guarded p i) (sym (ap (free p) q) ∙ e)))
-  which j h e Outside q = outside j h q
+  which j h e (Some it) q = protected j it.block it.place h q (set_bit p it.block (not-false (guarded p it.block) (sym (ap (free p) q) ∙ e)))
+  which j h e None q = outside j h q
 
   -- P14: the cases of a program are complete
   pub may_or_not : May most p a ds ⊎ MayNot most p a ds

@@ -6,8 +6,8 @@ use mathlib.Core.Logic.{inr}
 use mathlib.Core.Path.{◌≡◌, refl, ap, sym, ◌∙◌, subst}
 use mathlib.Core.List.{List, [], ◌∷◌}
 use lib.ListN.{length, take, drop, replicate}
-use Rattle.flash.specs.declared.Found.TheVariants.{Inside, Outside}
-use Rattle.flash.specs.Blocks.{part, find, sized, page_address}
+use Rattle.std.proofs.Common.{Some, None}
+use Rattle.flash.specs.Blocks.{spot, part, find, sized, page_address}
 use Rattle.flash.specs.Image.{byte_at, page_part}
 use Rattle.flash.proofs.Places.{rising}
 use Rattle.flash.proofs.Outcomes.{true_sized}
@@ -38,19 +38,19 @@ module _ {u : Port} (ready : Ready u) (opened : is_open u.registers ≡ true) (i
       (ends u u.registers (Kept img) img l refl)
 
   -- the same, as the part of the image from the page's place on
-  pub read_part : {i k : ℕ} → find part (256 * mid + 65536 * high) ≡ Inside i k → Ends u u.registers (Kept img) (take 256 (drop k img)) (run u img (0xFF ∷ mid ∷ high ∷ []))
+  pub read_part : {i k : ℕ} → find part (256 * mid + 65536 * high) ≡ Some (spot i k) → Ends u u.registers (Kept img) (take 256 (drop k img)) (run u img (0xFF ∷ mid ∷ high ∷ []))
   read_part {i} {k} e =
       let s : sized part img ≡ true = true_sized part img size in
-      let f : find part (page_address mid high) ≡ Inside i k = ap (find part) address ∙ e in
+      let f : find part (page_address mid high) ≡ Some (spot i k) = ap (find part) address ∙ e in
       let page : List ℕ = page_part part img mid high in
       replied (take 256 (drop k img)) (full_reply page (page_long part img mid high rising i k s f) ∙ page_is part img mid high i k s f)
 
   -- P1: FF, mid, high: replies the 256 bytes of the page
-  pub read_inside : {i k : ℕ} → find part (256 * mid + 65536 * high) ≡ Inside i k
+  pub read_inside : {i k : ℕ} → find part (256 * mid + 65536 * high) ≡ Some (spot i k)
       → (page : List ℕ) × Page img (256 * mid + 65536 * high) page × Ends u u.registers (Kept img) page (run u img (0xFF ∷ mid ∷ high ∷ []))
   read_inside {i} {k} e =
       let s : sized part img ≡ true = true_sized part img size in
-      let f : find part (page_address mid high) ≡ Inside i k = ap (find part) address ∙ e in
+      let f : find part (page_address mid high) ≡ Some (spot i k) = ap (find part) address ∙ e in
       let long = page_long part img mid high rising i k s f in
       let page : List ℕ = page_part part img mid high in (
         page,
@@ -59,6 +59,6 @@ module _ {u : Port} (ready : Ready u) (opened : is_open u.registers ≡ true) (i
       )
 
   -- P1: outside, 256 times FF
-  pub read_outside : find part (256 * mid + 65536 * high) ≡ Outside → Ends u u.registers (Kept img) (replicate 256 0xFF) (run u img (0xFF ∷ mid ∷ high ∷ []))
+  pub read_outside : find part (256 * mid + 65536 * high) ≡ None → Ends u u.registers (Kept img) (replicate 256 0xFF) (run u img (0xFF ∷ mid ∷ high ∷ []))
   unfolding page_reply
   read_outside e = replied (replicate 256 0xFF) (ap page_reply (page_outside_empty part img mid high (ap (find part) address ∙ e)))

@@ -4,11 +4,11 @@ use native.Mathlib.Omega.{arith}
 use native.Mathlib.Decide.{dec_lt}
 use mathlib.Core.Bool.{Bool, true, false, cond}
 use mathlib.Core.Path.{◌≡◌, refl, ap, ap₂, sym, ◌∙◌}
-use mathlib.Core.List.{List, [], ◌∷◌, ◌++◌, append_assoc}
+use mathlib.Core.List.{List, [], ◌∷◌, ◌++◌, append_assoc, append-nil}
 use lib.ListN.{length, take, drop, length-append, length-drop}
 use lib.Seq.{take-append_seam, drop-append_seam, drop-drop}
 use lib.Dec.{ltb, eqb}
-use borrow.Author.Tests.{ltb-true, ltb-false, eqb-true}
+use borrow.Author.Tests.{ltb-true, ltb-false, le-ltb, eqb-true}
 use Rattle.slices.specs.Lists.{Bytes}
 use Rattle.slices.proofs.Lists.{cond_elim}
 use Rattle.unit.specs.declared.Unit.{Unit as Port}
@@ -160,4 +160,16 @@ run_is_bytes u room got img bytes y area = go (eqb (refusal u img area) 0) refl
     go true e =
         let w = not_refused u img area (eqb-true (refusal u img area) 0 e) in
         sym (loop_is_walk (sound u w.2 room got) img w.0 bytes y area)
+    go false e = refl
+
+-- a run of one byte is that byte's call: a call that is not refused has room for it
+pub run_of_one : (u : Port) (img area : List ℕ) (b : ℕ) → run_call u img (b ∷ []) area ≡ byte_call u img area b
+unfolding run_call byte_call
+run_of_one u img area b = go (eqb (refusal u img area) 0) refl
+  where
+    never : Left
+    never = refused (refusal u img area) u img area
+
+    go : (t : Bool) → eqb (refusal u img area) 0 ≡ t → cond t (answer area (walked (length area) u img (b ∷ []))) never ≡ cond t (answered (step u img b) 1 area) never
+    go true e = rw (le-ltb (length area) 256 (not_refused u img area (eqb-true (refusal u img area) 0 e)).1, append-nil) refl
     go false e = refl

@@ -1,14 +1,28 @@
 -- Document 01, "When a call says no": the three calls, complete for every input, and the clauses that the port's contracts are.
-use Rattle.std.specs.Prelude.{ℕ, suc, ◌-◌, ◌≡◌, cond, not, List, [], ◌∷◌, ◌++◌, length, drop, ltb, eqb}
+use Rattle.std.specs.Prelude.{ℕ, suc, ◌-◌, ◌≡◌, cond, not, List, [], ◌∷◌, ◌++◌, length, drop, ltb, eqb, Result, Ok, Err}
 use Rattle.flash.specs.Blocks.{part, sized}
 use Rattle.unit.specs.declared.Unit.{Unit as Port}
 use Rattle.unit.specs.declared.Inputs.{Inputs}
 use Rattle.unit.specs.Model.{fresh, idle}
 use Rattle.unit.specs.Range.{in_range}
-use Rattle.protocol.specs.declared.Started.{Started}
+use Rattle.protocol.specs.declared.Refusal.{Refusal}
+use Rattle.protocol.specs.declared.Refusal.TheVariants.{Image, Protection, Area, Unit}
+use Rattle.protocol.specs.declared.Refused.{Refused}
 use Rattle.protocol.specs.declared.Answer.{Answer}
 use Rattle.protocol.specs.Outcome.{Outcome}
 use Rattle.protocol.specs.Step.{step}
+
+-- what a start answers, by its number: the refusal's, or 0, and the unit
+pub record Started : Type 0 where
+  pub refusal : ℕ
+  pub unit : Port
+
+-- what a byte or a run answers, by its number: the refusal's, or 0, the next unit, the bytes taken and the reply's length
+pub record Numbered : Type 0 where
+  pub refusal : ℕ
+  pub unit : Port
+  pub taken : ℕ
+  pub reply_len : ℕ
 
 -- the number of a start's refusal, or 0: the lowest that applies
 unfoldable pub start_refusal : List ℕ → Inputs → ℕ
@@ -28,15 +42,15 @@ refusal u img area =
 
 -- all that a byte's or a run's call leaves: its answer, the image and the reply area
 pub record Left : Type 0 where
-  pub answer : Answer
+  pub answer : Numbered
   pub image : List ℕ
   pub area : List ℕ
 
-abbrev pub left : Answer → List ℕ → List ℕ → Left
+abbrev pub left : Numbered → List ℕ → List ℕ → Left
 left r img area = record { answer = r; image = img; area = area }
 
 -- a refusal: the unit as given, no byte taken, no reply, image and area unchanged
-abbrev pub refusing : ℕ → Port → Answer
+abbrev pub refusing : ℕ → Port → Numbered
 refusing n u = record { refusal = n; unit = u; taken = 0; reply_len = 0 }
 
 abbrev pub refused : ℕ → Port → List ℕ → List ℕ → Left
@@ -76,14 +90,31 @@ run_call u img bytes area =
     let w = walked (length area) u img bytes in
     cond (eqb (refusal u img area) 0) (answered w.outcome w.taken area) (refused (refusal u img area) u img area)
 
+-- the document's number of each refusal
+abbrev pub number_of : Refusal → ℕ
+number_of Image = 1
+number_of Protection = 2
+number_of Area = 3
+number_of Unit = 4
+
+-- a start's result by its number: a refused one hands a unit back
+abbrev pub started : Result Port Refused → Started
+started (Ok u) = record { refusal = 0; unit = u }
+started (Err e) = record { refusal = number_of e.refusal; unit = e.unit }
+
+-- and that of a byte or a run: a refused one hands a unit back, has taken no byte and replies nothing
+abbrev pub numbered : Result Answer Refused → Numbered
+numbered (Ok a) = record { refusal = 0; unit = a.unit; taken = a.taken; reply_len = a.reply_len }
+numbered (Err e) = refusing (number_of e.refusal) e.unit
+
 -- the clauses: what a start answers of an image and the inputs
 abbrev pub StartEnsures : List ℕ → Inputs → Started → Type 0
 StartEnsures img inputs r = r ≡ start_call img inputs
 
 -- what a byte's call answers, and leaves of the image and the reply area
-abbrev pub ByteEnsures : Port → List ℕ → List ℕ → ℕ → Answer → List ℕ → List ℕ → Type 0
+abbrev pub ByteEnsures : Port → List ℕ → List ℕ → ℕ → Numbered → List ℕ → List ℕ → Type 0
 ByteEnsures u img area b r img' area' = left r img' area' ≡ byte_call u img area b
 
 -- what a run's call does
-abbrev pub RunEnsures : Port → List ℕ → List ℕ → List ℕ → Answer → List ℕ → List ℕ → Type 0
+abbrev pub RunEnsures : Port → List ℕ → List ℕ → List ℕ → Numbered → List ℕ → List ℕ → Type 0
 RunEnsures u img area bytes r img' area' = left r img' area' ≡ run_call u img bytes area

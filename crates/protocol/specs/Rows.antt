@@ -1,8 +1,7 @@
 -- Document 01's "Waking" and its packet table over whole packets, in words of their own: what a packet's bytes are, when a program may be carried out, what a byte or a packet leaves.
 -- The laws of proofs/Rows* say that the step does so. Nothing here cites the step or its endings.
-use Rattle.std.specs.Prelude.{ℕ, suc, min, ◌+◌, ◌*◌, ◌/◌, ◌%◌, ◌^◌, ◌≤◌, ◌<◌, ◌≡◌, ◌≢◌, ◌⊎◌, true, List, [], ◌∷◌, ◌++◌, map, length, get_or, take, drop, replicate}
-use Rattle.flash.specs.declared.Found.TheVariants.{Inside, Outside}
-use Rattle.flash.specs.Blocks.{part, find}
+use Rattle.std.specs.Prelude.{ℕ, suc, min, ◌+◌, ◌*◌, ◌/◌, ◌%◌, ◌^◌, ◌≤◌, ◌<◌, ◌≡◌, ◌≢◌, ◌⊎◌, true, List, [], ◌∷◌, ◌++◌, Some, None, map, length, get_or, take, drop, replicate}
+use Rattle.flash.specs.Blocks.{spot, part, find}
 use Rattle.flash.specs.Image.{byte_at}
 use Rattle.unit.specs.declared.Unit.{Unit as Port}
 use Rattle.unit.specs.declared.Registers.{Registers}
@@ -95,14 +94,14 @@ pub data Programs : List ℕ → ℕ → List ℕ → ℕ → Type 0 where
 pub record May (most p a : ℕ) (ds : List ℕ) : Type 0 where
   pub some : 0 < length ds
   pub bank : a % 65536 + length ds ≤ most
-  pub free : (j : ℕ) → j < length ds → (i : ℕ) × (k : ℕ) × (find part (a + j) ≡ Inside i k) × (p / 2 ^ i % 2 ≡ 0)
+  pub free : (j : ℕ) → j < length ds → (i : ℕ) × (k : ℕ) × (find part (a + j) ≡ Some (spot i k)) × (p / 2 ^ i % 2 ≡ 0)
 
 -- it may not: n is 0, or the low 16 address bits plus n exceed `most`, or a byte lies outside or in a protected block
 pub data MayNot (most p a : ℕ) (ds : List ℕ) : Type 0 where
   none : length ds ≡ 0 → MayNot most p a ds
   bank : most < a % 65536 + length ds → MayNot most p a ds
-  outside : (j : ℕ) → j < length ds → find part (a + j) ≡ Outside → MayNot most p a ds
-  protected : (j i k : ℕ) → j < length ds → find part (a + j) ≡ Inside i k → p / 2 ^ i % 2 ≡ 1 → MayNot most p a ds
+  outside : (j : ℕ) → j < length ds → find part (a + j) ≡ None → MayNot most p a ds
+  protected : (j i k : ℕ) → j < length ds → find part (a + j) ≡ Some (spot i k) → p / 2 ^ i % 2 ≡ 1 → MayNot most p a ds
 
 -- SRD once it was carried out, by the new image: 80, or 90 if some byte then differs from its data
 pub data Verified (a : ℕ) (ds new : List ℕ) : ℕ → Type 0 where

@@ -1,19 +1,43 @@
 // The answers of the three calls. What they mean stands in specs/: document 01, with document 02's Items 3 and 5, as definitions.
 #![tactic(auto)]
 
+ghost use Rattle.std.specs.Prelude.{◌≡◌};
+ghost use Rattle.protocol.specs.Calls.{number_of};
+
 use unit::Unit;
 
-// A start: the refusal's number, or 0, and the unit.
+// Why a call is refused, by document 01's numbers: the lowest that applies.
+#[derive(Clone, Copy, PartialEq, Eq)]
+pub enum Refusal {
+    // an image that has not 20,480 bytes
+    Image = 1,
+    // a protection number over 15
+    Protection = 2,
+    // a reply area under 256 bytes
+    Area = 3,
+    // a unit out of its ranges
+    Unit = 4,
+}
+
+impl Refusal {
+    // Of this enum alone: `rates` has refusals and numbers of its own, and a trait of numbers would be longer than the two.
+    pub fn number(self) -> u8
+        ensures { result ≡ number_of self }
+    {
+        self as u8
+    }
+}
+
+// A call that is refused: why, and the unit that it hands back, which is the one that was given, and at a start the idle one.
 #[derive(Clone, Copy)]
-pub struct Started {
-    pub refusal: u8,
+pub struct Refused {
+    pub refusal: Refusal,
     pub unit: Unit,
 }
 
-// A byte or a run of bytes: the refusal's number, or 0, the next unit, the bytes taken and the reply's length.
+// A byte or a run of bytes: the next unit, the bytes taken, and the reply's length, which document 01 has beside the area that the caller lends.
 #[derive(Clone, Copy)]
 pub struct Answer {
-    pub refusal: u8,
     pub unit: Unit,
     pub taken: usize,
     pub reply_len: usize,

@@ -28,6 +28,7 @@ pub enum Phase {
 }
 
 // What bytes change: SRD, SRD1, the rate index, and the count of wrong ID checks since start.
+// Numbers and no enums: the theorems on `in_range` speak of records with any byte there, and a call refuses such a record.
 #[derive(Clone, Copy)]
 pub struct Registers {
     pub srd: u8,
@@ -43,6 +44,7 @@ pub struct Settings {
     pub protection: u8,
 }
 
+// Fixed memory, all of it in the record that the theorems speak of: how many of the collected bytes have come stands in the phase.
 #[derive(Clone, Copy)]
 pub struct Unit {
     pub phase: Phase,
@@ -108,136 +110,122 @@ impl Unit {
     pub const MAX_MISMATCHES: u8 = 3;
 
     // The fresh unit of an image.
-    pub fn fresh(image: &[u8], inputs: Inputs) -> Unit
+    #[tactic(auto, unfolding(crate::specs::Model::fresh))]
+    pub fn fresh(image: &[u8], inputs: Inputs) -> Self
         ensures { FreshEnsures image.now inputs result }
     {
-        Unit::begun(flash::blank(image), inputs)
+        Self::begun(flash::blank(image), inputs)
     }
 
     // The fresh unit of a non-blank image with protection 0.
-    pub fn idle() -> Unit
+    #[tactic(auto, unfolding(crate::specs::Model::idle))]
+    pub fn idle() -> Self
         ensures { IdleEnsures result }
     {
-        Unit::begun(false, Inputs { protection: 0 })
+        Self::begun(false, Inputs { protection: 0 })
     }
 
-    fn begun(blank: bool, inputs: Inputs) -> Unit
+    #[tactic(auto, unfolding(crate::specs::Model::begun))]
+    fn begun(blank: bool, inputs: Inputs) -> Self
         ensures { result ≡ begun blank inputs }
     {
-        let srd1 = if blank {
-            Unit::MATCH
-        } else {
-            Unit::NOT_CHECKED
-        };
-        let phase = Phase::Asleep(0);
-        let registers = Registers {
-            srd: Unit::READY,
-            srd1: srd1,
-            rate: 0,
-            mismatches: 0,
-        };
-        let settings = Settings {
-            blank: blank,
-            protection: inputs.protection,
-        };
-        let collected = [0u8; 259];
-        Unit {
-            phase: phase,
-            registers: registers,
-            settings: settings,
-            collected: collected,
+        Self {
+            phase: Phase::Asleep(0),
+            registers: Registers {
+                srd: Self::READY,
+                srd1: if blank {
+                    Self::MATCH
+                } else {
+                    Self::NOT_CHECKED
+                },
+                rate: 0,
+                mismatches: 0,
+            },
+            settings: Settings {
+                blank,
+                protection: inputs.protection,
+            },
+            collected: [0; Self::COLLECTED],
         }
     }
 
     // A unit put together from its parts.
-    pub fn of(state: State, settings: Settings, collected: [u8; 259]) -> Unit
+    pub fn of(state: State, settings: Settings, collected: [u8; 259]) -> Self
         ensures { OfEnsures state settings collected result }
     {
-        let phase = state.phase;
-        let registers = state.registers;
-        Unit {
-            phase: phase,
-            registers: registers,
-            settings: settings,
-            collected: collected,
+        Self {
+            phase: state.phase,
+            registers: state.registers,
+            settings,
+            collected,
         }
     }
 
     pub fn state(self) -> State
         ensures { StateEnsures self result }
     {
-        let phase = self.phase;
-        let registers = self.registers;
         State {
-            phase: phase,
-            registers: registers,
+            phase: self.phase,
+            registers: self.registers,
         }
     }
 
     // Every number of the record is in its range.
+    #[tactic(auto, using(crate::proofs::Lengths::size_decides), unfolding(crate::specs::Range::in_range))]
     pub fn in_range(self) -> bool
         ensures { InRangeEnsures self result }
     {
-        let phase = self.phase;
-        let registers = self.registers;
-        let settings = self.settings;
-        let collected = self.collected;
-        phase_fits(phase, registers.is_open(), collected[3])
-            && (registers.fit() && settings.fit(registers))
+        phase_fits(self.phase, self.registers.is_open(), self.collected[3])
+            && self.registers.fit()
+            && self.settings.fit(self.registers)
     }
 }
 
 impl State {
     // A state with another phase, or with other registers at the end of a packet.
-    pub fn at(self, phase: Phase) -> State
+    pub fn at(self, phase: Phase) -> Self
         ensures { AtEnsures self phase result }
     {
-        let registers = self.registers;
-        State {
-            phase: phase,
-            registers: registers,
-        }
+        Self { phase, ..self }
     }
 
-    pub fn at_command(registers: Registers) -> State
+    pub fn at_command(registers: Registers) -> Self
         ensures { AtCommandEnsures registers result }
     {
-        State {
+        Self {
             phase: Phase::Awake(Place::Command),
-            registers: registers,
+            registers,
         }
     }
 }
 
 impl Registers {
-    pub fn with_srd(mut self, srd: u8) -> Registers
+    // With one of them changed: a function for each, since docs/PINNED.md and the theorems that it names speak of all four.
+    pub fn with_srd(self, srd: u8) -> Self
         ensures { WithSrdEnsures self srd result }
     {
-        self.srd = srd;
-        self
+        Self { srd, ..self }
     }
 
-    pub fn with_srd1(mut self, srd1: u8) -> Registers
+    pub fn with_srd1(self, srd1: u8) -> Self
         ensures { WithSrd1Ensures self srd1 result }
     {
-        self.srd1 = srd1;
-        self
+        Self { srd1, ..self }
     }
 
-    pub fn with_rate(mut self, rate: u8) -> Registers
+    pub fn with_rate(self, rate: u8) -> Self
         ensures { WithRateEnsures self rate result }
     {
-        self.rate = rate;
-        self
+        Self { rate, ..self }
     }
 
-    pub fn with_mismatches(mut self, mismatches: u8) -> Registers
+    pub fn with_mismatches(self, mismatches: u8) -> Self
         ensures { WithMismatchesEnsures self mismatches result }
     {
-        self.mismatches = mismatches;
-        self
+        Self { mismatches, ..self }
     }
 
+    #[tactic(auto, unfolding(crate::specs::Model::is_open))]
     pub fn is_open(self) -> bool
         ensures { IsOpenEnsures self result }
     {
@@ -245,21 +233,25 @@ impl Registers {
     }
 
     // SR4 or SR5 stands.
+    #[tactic(auto, unfolding(crate::specs::Model::standing))]
     pub fn is_standing(self) -> bool
         ensures { IsStandingEnsures self result }
     {
         self.srd != Unit::READY
     }
 
+    #[tactic(auto, unfolding(crate::specs::Range::registers_fit))]
     fn fit(self) -> bool
         ensures { result ≡ registers_fit self }
     {
         srd_fits(self.srd)
-            && (srd1_fits(self.srd1)
-                && (self.rate <= Unit::MAX_RATE && self.mismatches <= Unit::MAX_MISMATCHES))
+            && srd1_fits(self.srd1)
+            && self.rate <= Unit::MAX_RATE
+            && self.mismatches <= Unit::MAX_MISMATCHES
     }
 
     // As those of a unit that started blank: open, and no wrong ID check.
+    #[tactic(auto, unfolding(crate::specs::Range::blank_fits))]
     fn fit_blank(self) -> bool
         ensures { result ≡ blank_fits self }
     {
@@ -267,25 +259,22 @@ impl Registers {
     }
 }
 
+#[tactic(auto, unfolding(crate::specs::Range::srd_fits))]
 fn srd_fits(srd: u8) -> bool
     ensures { result ≡ srd_fits srd }
 {
-    match srd {
-        0x80 | 0x90 | 0xA0 | 0xB0 => true,
-        _ => false,
-    }
+    matches!(srd, 0x80 | 0x90 | 0xA0 | 0xB0)
 }
 
+#[tactic(auto, unfolding(crate::specs::Range::srd1_fits))]
 fn srd1_fits(srd1: u8) -> bool
     ensures { result ≡ srd1_fits srd1 }
 {
-    match srd1 {
-        0x00 | 0x04 | 0x0C => true,
-        _ => false,
-    }
+    matches!(srd1, 0x00 | 0x04 | 0x0C)
 }
 
 impl Settings {
+    #[tactic(auto, unfolding(crate::specs::Range::settings_fit))]
     fn fit(self, registers: Registers) -> bool
         ensures { result ≡ settings_fit self registers }
     {
@@ -294,6 +283,7 @@ impl Settings {
 }
 
 // The phase of a unit that is open or not, and whose fourth collected byte is `size`: no other collected byte matters.
+#[tactic(auto, unfolding(crate::specs::Range::position_fits))]
 fn phase_fits(phase: Phase, opened: bool, size: u8) -> bool
     ensures { result ≡ position_fits (position_of phase) opened (size_alone size) }
 {
@@ -303,6 +293,8 @@ fn phase_fits(phase: Phase, opened: bool, size: u8) -> bool
     }
 }
 
+// An arm for each place, as document 01 lists them: `opened &&` said once would part two arms from the five that it is for.
+#[tactic(auto, using(crate::proofs::Lengths::few_sized), unfolding(crate::specs::Range::position_fits, crate::specs::Range::packet_fits, crate::specs::Phases::command_of, crate::specs::Phases::need))]
 fn place_fits(place: Place, opened: bool, size: u8) -> bool
     ensures { result ≡ position_fits (position_of (Awake place)) opened (size_alone size) }
 {

@@ -1,18 +1,11 @@
--- A turn burns one datum more, and the flag falls where what is left differs from it.
-use Rattle.std.proofs.Common.{◌∙◌, arith}
-use Rattle.flash.proofs.Turns.{burn_turn, good_keeps, good_fails}
+-- A turn burns one datum more, and the flag stays up only where the byte that is left is the one that was wanted.
+use Rattle.std.proofs.Common.{arith}
+use Rattle.flash.proofs.Turns.{burn_turn, good_turn}
 use Rattle.flash.proofs.burn_bytes.Goals as goal
-use Rattle.flash.proofs.burn_bytes.Goals.{then-left-want, else-left-want}
 
 pub loop-i-preserved : goal.loop-i-preserved
 loop-i-preserved c =
     let old = c.args.bytes.now in
     let new = c.args.new.now in
-    let l = c.loop-i in (
-      omega arith,
-      burn_turn old new l.bytes l.i l.invariant.1 (omega arith) (omega arith),
-      elim c.if-left-want.branch [
-        | then-left-want w ↦ w.good-is ∙ good_fails old new l.bytes l.i l.invariant.1 (omega arith) (omega arith) w.if-left-want.true
-        | else-left-want w ↦ good_keeps old new l.bytes l.i l.invariant.1 (omega arith) (omega arith) c.if-left-want.good (w.good-is ∙ l.invariant.2) w.if-left-want.false
-      ],
-    )
+    let l = c.loop-i in
+    (burn_turn old new l.bytes l.i l.invariant.0 (omega arith) (omega arith), good_turn old new l.bytes l.i l.good l.invariant.0 l.invariant.1 (omega arith) (omega arith))

@@ -1,14 +1,10 @@
 -- `flash::burn_bytes` meets its contract: after i turns the first i data are burnt, and the flag says whether the first i bytes hold theirs.
-use Rattle.std.proofs.Common.{◌≡◌, ◌-◌, ◌≤◌, length, take}
+use Rattle.std.proofs.Common.{◌≡◌, take}
 use Rattle.flash.specs.Image.{burn}
 use Rattle.flash.proofs.Turns.{good}
 use Rattle.flash.proofs.burn_bytes.Given as goal
 
 abbrev pub invariant-loop-i : goal.invariant-loop-i
 invariant-loop-i l =
-    (l.i ≤ length l.new)
-    × (l.bytes ≡ burn l.initial.bytes (take l.i l.new))
+    (l.bytes ≡ burn l.initial.bytes (take l.i l.new))
     × (l.good ≡ good l.initial.bytes l.new l.i)
-
-abbrev pub decreases-loop-i : goal.decreases-loop-i
-decreases-loop-i l = length l.new - l.i

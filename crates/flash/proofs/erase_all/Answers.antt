@@ -1,16 +1,18 @@
 -- Of a wrong size nothing is erased; else every block has had its turn.
-use Rattle.std.proofs.Common.{◌≡◌, ◌∙◌, arith}
+use Rattle.std.proofs.Common.{◌≡◌, ◌∙◌, ap, sym, add-one, arith}
 use Rattle.flash.specs.Blocks.{part}
-use Rattle.flash.specs.Image.{erase_all}
-use Rattle.flash.proofs.Outcomes.{true_sized, not_sized}
+use Rattle.flash.specs.Image.{wiped_free}
+use Rattle.flash.proofs.Outcomes.{true_sized, not_sized, all_unsized, all_done}
 use Rattle.flash.proofs.erase_all.Goals as goal
 
-pub returns-then-image-ne-IMAGE : goal.returns-then-image-ne-IMAGE
-unfolding erase_all
-returns-then-image-ne-IMAGE c = rw (not_sized part _ c.if-image-ne-IMAGE.true)
+pub returns-in_default : goal.returns-in_default
+returns-in_default c = sym (all_unsized part _ _ (not_sized part _ c.in_default.ensures.cases))
+
+pub loop-block-preserved : goal.loop-block-preserved
+loop-block-preserved c = c.wipe_free.ensures ∙ rw (add-one) (ap (wiped_free part c.args.protection c.loop-block.block) c.loop-block.invariant)
 
 pub returns : goal.returns
-unfolding erase_all
 returns c =
-    let e : c.loop-i.i ≡ 4 = omega arith in
-    c.loop-i.invariant.1 ∙ rw (e, true_sized part c.args.image.now (omega arith))
+    let e : c.loop-block.block ≡ 4 = omega arith in
+    let whole = c.in-Some.ensures.cases in
+    c.loop-block.invariant ∙ rw (e, whole.same) (sym (all_done part _ _ (true_sized part _ whole.long)))

@@ -1,37 +1,28 @@
--- `port::run` meets its contract: it refuses with the number that was found, and else is the walk over the unit's parts, put together again.
+-- `port::run` meets its contract: it refuses with what was found, and else is the walk over the unit that it lends.
 use mathlib.Core.Path.{ap, sym, ◌∙◌}
-use Prim.Native.Nat.{ℕ}
-use lib.ListN.{length, get_or}
+use lib.ListN.{get_or}
 use mir.Val.{Fits}
 use mir.Syntax.{w8}
 use Rattle.std.proofs.Common.{rules}
-use Rattle.unit.specs.declared.State.{State}
-use Rattle.unit.specs.Model.{whole}
-use Rattle.protocol.specs.Calls.{refused, walked}
-use Rattle.protocol.proofs.Refusals.{run_refused, run_done}
-use Rattle.port.specs.Parts.{landed}
-use Rattle.port.proofs.Given.{given}
+use Rattle.protocol.proofs.Refusals.{run_done}
+use Rattle.protocol.specs.Calls.{Numbered}
+use Rattle.port.specs.Parts.{found}
+use Rattle.port.proofs.Given.{given, run_says}
 use Rattle.port.proofs.run.Goals as goal
 
-pub returns-then-no-ne0 : goal.returns-then-no-ne0
-returns-then-no-ne0 c =
+pub returns-in_err-check : goal.returns-in_err-check
+returns-in_err-check c =
     let a = c.args in
-    let n = c.refusal_of-no.ensures in
-    rw c.refuse.ensures (ap (λ (m : ℕ). refused m a.u a.image.now a.reply.now) n ∙ sym (run_refused a.u a.image.now a.reply.now a.bytes.now (λ z. c.if-no-ne0.true (n ∙ z))))
+    let e = run_says a.u a.image.now a.reply.now c.in_err-check.field-0.0 c.in_err-check.ensures a.bytes.now in
+    search rules
 
-pub run_in-w-requires : goal.run_in-w-requires
-run_in-w-requires c =
+pub run_in-count-requires : goal.run_in-count-requires
+run_in-count-requires c =
     let s = c in
     let a = s.args in
-    rw c.state.ensures
-    (given a.u a.image.now a.reply.now (sym c.refusal_of-no.ensures ∙ c.if-no-ne0.false) (search rules) (λ i. let f : Fits w8 (get_or a.u.collected i 0) = search rules in f.fits))
+    given a.u a.image.now a.reply.now (ap (λ (n : Numbered). n.refusal) (sym c.check.ensures ∙ ap (found a.u) c.in_ok-check.was)) (search rules) (λ i. let given_unit = c.well_formed.0 in let f : Fits w8 (get_or a.u.collected i 0) = search rules in f.fits)
 
 pub returns : goal.returns
 returns c =
     let a = c.args in
-    let k = c.run_in-w in
-    let n = c.refusal_of-no.ensures in
-    rw c.of.ensures
-    (k.ensures
-    ∙ (ap (λ (s : State). landed (walked (length a.reply.now) (whole s a.u.settings a.u.collected) a.image.now a.bytes.now) a.reply.now) c.state.ensures
-    ∙ sym (run_done a.u a.image.now a.reply.now a.bytes.now (sym n ∙ c.if-no-ne0.false))))
+    c.run_in-count.ensures ∙ sym (run_done a.u a.image.now a.reply.now a.bytes.now (ap (λ (n : Numbered). n.refusal) (sym c.check.ensures ∙ ap (found a.u) c.in_ok-check.was)))

@@ -1,9 +1,0 @@
--- `slices::copy` meets its contract: after i turns the first i bytes are those of `src`, and the others as before; the shorter of the two ends it.
-use Rattle.std.proofs.Common.{◌≡◌, ◌-◌, ◌≤◌, ◌++◌, take, drop}
-use Rattle.slices.proofs.copy.Given as goal
-
-abbrev pub invariant-loop-i : goal.invariant-loop-i
-invariant-loop-i l = (l.i ≤ l.n) × (l.dst ≡ take l.i l.src ++ drop l.i l.initial.dst)
-
-abbrev pub decreases-loop-i : goal.decreases-loop-i
-decreases-loop-i l = l.n - l.i
