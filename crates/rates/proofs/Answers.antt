@@ -7,20 +7,20 @@ use lib.Dec.{eqb, lit≤}
 use lib.Ieee.{Float, le, of_int}
 use lib.Ieee.Bits.{is_true}
 use lib.Ieee.Fits.{and_i, and_l, and_r}
-use borrow.Author.Tests.{eqb-true}
+use Rattle.std.specs.Float.{NotNan}
+use Rattle.std.proofs.lemmas.Bool.{both_ways, eqb-true, false_from_ne_true, or_cases}
+use Rattle.std.proofs.lemmas.Float.{T_from_true}
 use Rattle.rates.specs.declared.Clock.{Clock}
 use Rattle.rates.specs.declared.Clock.TheVariants.{Fixed8, Fixed7, External}
 use Rattle.rates.specs.declared.Plan.{Plan}
-use Rattle.rates.specs.declared.Planned.{Planned}
+use Rattle.rates.specs.Planned.{Planned}
 use Rattle.rates.specs.Clocks.{float, hertz, in_range, is_taken}
 use Rattle.rates.specs.Rates.{is_listed, plan_at, farness}
 use Rattle.rates.specs.Plans.{best_divider, plus_zero, made_plan, refused_with, answer_with, planned}
 use Rattle.rates.specs.Search.{best_up_to, searched}
 use Rattle.rates.specs.Nearest.{Nearest}
 use Rattle.rates.specs.Answers.{Taken, Listed, Refused, Answer, plan_made, clock_refused, rate_refused}
-use Rattle.rates.proofs.Tests.{holds, refuted, not_both}
-use Rattle.rates.proofs.Order.{Real}
-use Rattle.rates.proofs.Bounds.{ClockWithin, within, distance_real}
+use Rattle.rates.proofs.Bounds.{ClockWithin, within, distance_number}
 use Rattle.rates.proofs.Chosen.{nearest_is, search_finds, chosen_nearest}
 
 -- ---- the clock
@@ -35,7 +35,7 @@ taken_in_range (External f) = refl
 in_range_lem : (f : Float) → in_range f ≡ true → Taken (External f)
 unfolding in_range
 in_range_lem f e =
-    (is_true _ (and_l (le (float 2000000) f) (le f (float 20000000)) (holds e)), is_true _ (and_r (le (float 2000000) f) (le f (float 20000000)) (holds e)))
+    (is_true _ (and_l (le (float 2000000) f) (le f (float 20000000)) (T_from_true _ e)), is_true _ (and_r (le (float 2000000) f) (le f (float 20000000)) (T_from_true _ e)))
 
 taken : (c : Clock) → is_taken c ≡ true → Taken c
 unfolding is_taken
@@ -47,24 +47,20 @@ pub taken_back : (c : Clock) → Taken c → is_taken c ≡ true
 unfolding is_taken in_range
 taken_back Fixed8 h = refl
 taken_back Fixed7 h = refl
-taken_back (External f) h = is_true _ (and_i (le (float 2000000) f) (le f (float 20000000)) (holds h.0) (holds h.1))
+taken_back (External f) h = is_true _ (and_i (le (float 2000000) f) (le f (float 20000000)) (T_from_true _ h.0) (T_from_true _ h.1))
 
 pub clock_within : (c : Clock) → is_taken c ≡ true → ClockWithin (hertz c)
 clock_within c e =
     let b = in_range_lem (hertz c) (taken_in_range c ∙ e) in
-    within 2000000 20000000 (hertz c) (lit≤ tt) (lit≤ tt) (lit≤ tt) (holds b.0) (holds b.1)
+    within 2000000 20000000 (hertz c) (lit≤ tt) (lit≤ tt) (lit≤ tt) (T_from_true _ b.0) (T_from_true _ b.1)
 
 -- ---- the rate
 
 one_more : (rate n : ℕ) (b : Bool) {R : Type 0} → (b ≡ true → R) → eqb rate n || b ≡ true → (rate ≡ n) ⊎ R
-one_more rate n b {R} k e = go (eqb rate n) refl e
-  where
-    go : (t : Bool) → eqb rate n ≡ t → t || b ≡ true → (rate ≡ n) ⊎ R
-    go true i j = inl (eqb-true rate n i)
-    go false i j = inr (k j)
+one_more rate n b k e = ⊎_elim (λ i. inl (eqb-true rate n i)) (λ i. inr (k i)) (or_cases (eqb rate n) b e)
 
 last : (rate n : ℕ) → eqb rate n || false ≡ true → rate ≡ n
-last rate n e = ⊎_elim (λ i. i) (λ i. absurd i) (one_more rate n false (λ j. not_both j refl) e)
+last rate n e = ⊎_elim (λ i. i) (λ i. absurd i) (one_more rate n false (λ j. both_ways _ refl j) e)
 
 listed : (rate : ℕ) → is_listed rate ≡ true → Listed rate
 unfolding is_listed
@@ -96,8 +92,8 @@ refused_is n a r =
 
 module _ (c : Clock) (rate : ℕ) where
   module _ (t : is_taken c ≡ true) (l : is_listed rate ≡ true) where
-    all_real : (j : ℕ) → j ≤ 255 → Real (farness (hertz c) rate j)
-    all_real j h = distance_real (hertz c) rate j (clock_within c t) (listed rate l) h
+    all_real : (j : ℕ) → j ≤ 255 → NotNan (farness (hertz c) rate j)
+    all_real j h = distance_number (hertz c) rate j (clock_within c t) (listed rate l) h
 
     is_made : planned c rate ≡ made_plan (plan_at (hertz c) rate (best_divider (hertz c) rate))
     unfolding planned answer_with
@@ -144,13 +140,13 @@ module _ (c : Clock) (rate : ℕ) where
     where
       go : (t l : Bool) → is_taken c ≡ t → is_listed rate ≡ l → Answer c rate (planned c rate)
       go true true t l = plan_made (taken c t) (listed rate l) (ap (λ (a : Planned). a.refusal) (is_made t l)) (made_nearest t l)
-      go true false t l = rate_refused (taken c t) (λ h. not_both (listed_back rate h) l) (subst (Refused 10) (not_listed t l) (refused_so 10))
-      go false l t _ = clock_refused (λ h. not_both (taken_back c h) t) (subst (Refused 9) (not_taken t) (refused_so 9))
+      go true false t l = rate_refused (taken c t) (λ h. both_ways _ l (listed_back rate h)) (subst (Refused 10) (not_listed t l) (refused_so 10))
+      go false l t _ = clock_refused (λ h. both_ways _ t (taken_back c h)) (subst (Refused 9) (not_taken t) (refused_so 9))
 
   no_other : (a : Planned) → Answer c rate a → a ≡ planned c rate
   no_other a (plan_made t l r n) = rebuilt a r ∙ made_is (taken_back c t) (listed_back rate l) a.plan n
-  no_other a (clock_refused t r) = refused_is 9 a r ∙ not_taken (refuted (is_taken c) (λ e. t (taken c e)))
-  no_other a (rate_refused t l r) = refused_is 10 a r ∙ not_listed (taken_back c t) (refuted (is_listed rate) (λ e. l (listed rate e)))
+  no_other a (clock_refused t r) = refused_is 9 a r ∙ not_taken (false_from_ne_true (is_taken c) (λ e. t (taken c e)))
+  no_other a (rate_refused t l r) = refused_is 10 a r ∙ not_listed (taken_back c t) (false_from_ne_true (is_listed rate) (λ e. l (listed rate e)))
 
   -- Item 7, whole: what is planned is the answer that its words ask for, and no other is
   pub plans_exactly : (a : Planned) → (a ≡ planned c rate) ↔ Answer c rate a

@@ -6,7 +6,9 @@ use mathlib.Core.Bool.{Bool, true, false, cond}
 use Prim.Native.Nat.{ℕ, ◌+◌, ◌-◌, ◌*◌, ◌^◌, ◌≤◌, ◌<◌}
 use native.Mathlib.Nat.{mul_assoc, mul_comm, mul_left_comm, mul-le-mul_right, mul-pos}
 use native.Mathlib.Omega.{arith}
-use borrow.Author.Tests.{ne_eqb, le-ltb}
+use Rattle.std.specs.Float.{NotNan}
+use Rattle.std.proofs.lemmas.Bool.{ne_eqb, le-ltb}
+use Rattle.std.proofs.lemmas.Float.{le_left, le_of_lt, le_of_not-lt, T_from_true, T_from_false}
 use lib.Dec.{T, eqb, ltb→lt, lit≤}
 use lib.Ieee.{Float, nan, inf, fin, binary64, up, down, round, sum, sub, div, lt, le, of_int, is_nan}
 use lib.Ieee.Exact.{HasValue}
@@ -16,8 +18,6 @@ use lib.Ieee.Positive.{num, den, positive, den_pos, own_value, value→cross, po
 use Rattle.rates.specs.Clocks.{float}
 use Rattle.rates.specs.Rates.{reached_at, apart, plan_at, farness}
 use Rattle.rates.specs.Answers.{Listed}
-use Rattle.rates.proofs.Tests.{holds, fails}
-use Rattle.rates.proofs.Order.{Real, lt_to_le, not_lt_to_le, le_left_real}
 
 -- ---- whole numbers as floats
 
@@ -113,10 +113,10 @@ pub record Rounds (x : Float) : Type 0 where
   pub below : ℕ
   pub is : x ≡ round binary64 false above below
 
-positive_real : (x : Float) → T (positive x) → Real x
-positive_real nan p = absurd p
-positive_real (inf s) p = absurd p
-positive_real (fin s m e) p = unfold is_nan in tt
+positive_number : (x : Float) → T (positive x) → NotNan x
+positive_number nan p = absurd p
+positive_number (inf s) p = absurd p
+positive_number (fin s m e) p = unfold is_nan in tt
 
 sub_is : (x y : Float) → T (positive x) → T (positive y) → T (le y x) → sub binary64 x y ≡ round binary64 false (num x * den y - num y * den x) (den x * den y)
 sub_is nan y p q h = absurd p
@@ -200,9 +200,9 @@ module _ (f : Float) (rate k : ℕ) (w : ClockWithin f) (l : Listed rate) (h : k
   distance_is P under over = go (lt (reached_at f k) (float rate)) refl
     where
       go : (b : Bool) → lt (reached_at f k) (float rate) ≡ b → P (cond b (sub binary64 (float rate) (reached_at f k)) (sub binary64 (reached_at f k) (float rate)))
-      go true e = under (lt_to_le (reached_at f k) (float rate) (holds e))
+      go true e = under (le_of_lt (reached_at f k) (float rate) (T_from_true _ e))
       go false e =
-          over (not_lt_to_le (float rate) (reached_at f k) (positive_real (float rate) wanted_within.above_zero) (positive_real (reached_at f k) reached_within.above_zero) (fails e))
+          over (le_of_not-lt (reached_at f k) (float rate) (positive_number (reached_at f k) reached_within.above_zero) (positive_number (float rate) wanted_within.above_zero) (T_from_false _ e))
 
   pub distance_most : T (le (farness f rate k) (float 1250000))
   distance_most =
@@ -210,8 +210,8 @@ module _ (f : Float) (rate k : ℕ) (w : ClockWithin f) (l : Listed rate) (h : k
       (λ g. sub_most (float rate) (reached_at f k) wanted_within.above_zero reached_within.above_zero g 1250000 (let m : num (float rate) ≤ 115200 * den (float rate) = wanted_within.most in omega arith))
       (λ g. sub_most (reached_at f k) (float rate) reached_within.above_zero wanted_within.above_zero g 1250000 reached_within.most)
 
-  pub distance_real : Real (farness f rate k)
-  distance_real = le_left_real (farness f rate k) (float 1250000) distance_most
+  pub distance_number : NotNan (farness f rate k)
+  distance_number = le_left (farness f rate k) (float 1250000) distance_most
 
   pub distance_rounds : Rounds (farness f rate k)
   distance_rounds =

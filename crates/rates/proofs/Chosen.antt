@@ -6,22 +6,23 @@ use native.Mathlib.Omega.{arith}
 use borrow.Author.Tests.{leb-true, leb-false}
 use lib.Dec.{T, leb, lit≤}
 use lib.Ieee.{Float, lt, le}
-use lib.Ieee.Bits.{is_true, is_false}
+use lib.Ieee.Bits.{is_true}
 use lib.Ieee.Fits.{and_i, and_l, and_r}
+use Rattle.std.specs.Float.{NotNan}
+use Rattle.std.proofs.lemmas.Bool.{false_from_ne_true}
+use Rattle.std.proofs.lemmas.Float.{lt_irrefl, lt_of_lt_of_le, T_from_true}
 use Rattle.rates.specs.declared.Plan.{Plan}
 use Rattle.rates.specs.Rates.{plan_at, farness}
 use Rattle.rates.specs.Plans.{max_divider, at_most_all, is_least, first_least, best_divider}
 use Rattle.rates.specs.Search.{best_up_to}
 use Rattle.rates.specs.Nearest.{Nearest}
-use Rattle.rates.proofs.Tests.{holds, refuted, not_both}
-use Rattle.rates.proofs.Order.{Real, le_to_not_lt}
 use Rattle.rates.proofs.Least.{up_to, search_nearest}
 
 module _ (f : Float) (rate : ℕ) where
   all_at_most : (d : Float) (k : ℕ) → ((j : ℕ) → j ≤ k → le d (farness f rate j) ≡ true) → T (at_most_all f rate d k)
   unfolding at_most_all
-  all_at_most d zero h = holds (h zero (lit≤ tt))
-  all_at_most d (suc k) h = and_i (at_most_all f rate d k) (le d (farness f rate (suc k))) (all_at_most d k (λ j i. h j (omega arith))) (holds (h (suc k) (omega arith)))
+  all_at_most d zero h = T_from_true _ (h zero (lit≤ tt))
+  all_at_most d (suc k) h = and_i (at_most_all f rate d k) (le d (farness f rate (suc k))) (all_at_most d k (λ j i. h j (omega arith))) (T_from_true _ (h (suc k) (omega arith)))
 
   each_at_most : (d : Float) (k : ℕ) → T (at_most_all f rate d k) → (j : ℕ) → j ≤ k → T (le d (farness f rate j))
   unfolding at_most_all
@@ -57,9 +58,11 @@ module _ (f : Float) (rate : ℕ) where
     no_smaller : (j : ℕ) → j < p.divider → is_least f rate j ≡ false
     unfolding is_least
     no_smaller j h =
-        refuted (is_least f rate j) (λ e.
-        not_both (ap (λ (d : Float). lt d (farness f rate j)) own_distance ∙ n.smallest j h)
-        (is_false _ (le_to_not_lt (farness f rate j) (farness f rate p.divider) (each_at_most (farness f rate j) max_divider (holds e) p.divider n.divides))))
+        false_from_ne_true (is_least f rate j) (λ e.
+        let nearer = T_from_true _ (ap (λ (d : Float). lt d (farness f rate j)) own_distance ∙ n.smallest j h) in
+        lt_irrefl (farness f rate p.divider)
+        (lt_of_lt_of_le (farness f rate p.divider) (farness f rate j) (farness f rate p.divider) nearer
+        (each_at_most (farness f rate j) max_divider (T_from_true _ e) p.divider n.divides)))
 
     best_divider_lem : best_divider f rate ≡ p.divider
     unfolding best_divider
@@ -72,7 +75,7 @@ module _ (f : Float) (rate : ℕ) where
   pub only : (p q : Plan) → Nearest f rate 255 p → Nearest f rate 255 q → p ≡ q
   only p q m n = nearest_is p m ∙ sym (nearest_is q n)
 
-  module _ (real : (j : ℕ) → j ≤ 255 → Real (farness f rate j)) where
+  module _ (real : (j : ℕ) → j ≤ 255 → NotNan (farness f rate j)) where
     pub search_finds : best_up_to f rate 255 ≡ plan_at f rate (best_divider f rate)
     search_finds = nearest_is (best_up_to f rate 255) (search_nearest f rate 255 real)
 

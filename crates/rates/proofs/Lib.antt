@@ -1,7 +1,4 @@
 -- What the proofs of several functions use.
-pub mod Tests
-mod Steps
-mod Order
 mod Bounds
 pub mod Least
 pub mod Chosen

@@ -7,16 +7,16 @@ use lib.Ieee.{Float, nan, inf, fin, binary64, prec, low, size, nearest, odd, uni
 use lib.Ieee.Bits.{is_true, of_bits-to_bits, to_bits-lt, to_bits-of_bits}
 use lib.Ieee.Exact.{HasValue, odd_sign}
 use lib.Ieee.Fits.{cond-fits, sub-fits, div-fits}
+use Rattle.std.specs.Float.{NotNan}
+use Rattle.std.proofs.lemmas.Float.{le_left, T_from_true}
 use Rattle.rates.specs.declared.Clock.{Clock}
 use Rattle.rates.specs.declared.Plan.{Plan}
-use Rattle.rates.specs.declared.Planned.{Planned}
+use Rattle.rates.specs.Planned.{Planned}
 use Rattle.rates.specs.Clocks.{float, hertz}
 use Rattle.rates.specs.Rates.{reached_at, apart, plan_at, farness}
 use Rattle.rates.specs.Plans.{plus_zero, planned}
 use Rattle.rates.specs.Answers.{Listed, Answer, plan_made, clock_refused, rate_refused}
 use Rattle.rates.specs.Floats.{Plain}
-use Rattle.rates.proofs.Tests.{holds}
-use Rattle.rates.proofs.Order.{Real, le_left_real}
 use Rattle.rates.proofs.Bounds.{ClockWithin, float_value, Rounds, reached_most, reached_rounds, distance_most, distance_rounds}
 use Rattle.rates.proofs.Answers.{refused_is, plans_exactly, clock_within, taken_back}
 
@@ -67,7 +67,7 @@ plain (fin s m e) f p h =
       pattern_fits = to_bits-lt binary64 (fin s m e) f;
       pattern_reads = of_bits-to_bits binary64 (fin s m e) f;
       pattern_only = λ b i r.
-          sym (to_bits-of_bits binary64 b i (subst Real (sym r) (le_left_real (fin s m e) (float 1250000) h))) ∙ ap (to_bits binary64) r;
+          sym (to_bits-of_bits binary64 b i (subst NotNan (sym r) (le_left (fin s m e) (float 1250000) h))) ∙ ap (to_bits binary64) r;
     }
 
 zero_plain : Plain plus_zero
@@ -106,5 +106,5 @@ answer_plain c rate = go (planned c rate) ((plans_exactly c rate (planned c rate
     go a (clock_refused t r) = both _ _ (ap (λ (x : Planned). x.plan) (refused_is 9 a r)) (zero_plain, zero_plain)
     go a (rate_refused t l r) = both _ _ (ap (λ (x : Planned). x.plan) (refused_is 10 a r)) (zero_plain, zero_plain)
 
-pub plain_real : (x : Float) → Plain x → Real x
-plain_real x p = le_left_real x (float 1250000) (holds p.most)
+pub plain_number : (x : Float) → Plain x → NotNan x
+plain_number x p = le_left x (float 1250000) (T_from_true _ p.most)

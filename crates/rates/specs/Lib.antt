@@ -1,5 +1,6 @@
 pub mod Clocks
 pub mod Rates
+pub mod Planned
 pub mod Plans
 pub mod Nearest
 pub mod Answers

@@ -1,11 +1,13 @@
 -- Document 02, Item 7: "try every divider 0 to 255", and of them "the smallest whose distance .. is least. Refusal 9 is the clock, 10 any other wanted rate;
 -- a refused plan has divider 0 and both floats +0." The lowest number wins (document 01).
-use Rattle.std.specs.Prelude.{Bool, false, ◌&&◌, cond, ℕ, zero, suc, pos, Float}
+use Rattle.std.specs.Prelude.{Bool, false, ◌&&◌, cond, ℕ, zero, suc, pos, Float, Result, Ok, Err}
 use Rattle.std.specs.Float.{fin}
 use Rattle.std.specs.Float.Ieee.{le}
 use Rattle.rates.specs.declared.Clock.{Clock}
 use Rattle.rates.specs.declared.Plan.{Plan}
-use Rattle.rates.specs.declared.Planned.{Planned}
+use Rattle.rates.specs.declared.Refusal.{Refusal}
+use Rattle.rates.specs.declared.Refusal.TheVariants as refusal
+use Rattle.rates.specs.Planned.{Planned}
 use Rattle.rates.specs.Clocks.{hertz, is_taken}
 use Rattle.rates.specs.Rates.{is_listed, plan_at, farness}
 
@@ -40,6 +42,16 @@ refused_with n = record { refusal = n; plan = record { reached = plus_zero; dist
 
 abbrev pub made_plan : Plan → Planned
 made_plan p = record { refusal = 0; plan = p }
+
+-- the number of each refusal
+abbrev pub number : Refusal → ℕ
+number refusal.Clock = 9
+number refusal.Rate = 10
+
+-- what is answered, in numbers: 0 and the plan, or a refusal's number and the plan of zeros
+abbrev pub numbered : Result Plan Refusal → Planned
+numbered (Ok p) = made_plan p
+numbered (Err e) = refused_with (number e)
 
 -- the answer to a clock and a wanted rate, where this is the plan if one is made
 unfoldable pub answer_with : Clock → ℕ → Plan → Planned

@@ -4,7 +4,7 @@
 ghost use Rattle.std.specs.Prelude.{◌≡◌};
 ghost use Rattle.rates.specs.Clocks.{in_range, hertz as hertz_of};
 ghost use Rattle.rates.specs.Rates.{is_listed, plan_at};
-ghost use Rattle.rates.specs.Plans.{refused_with, planned};
+ghost use Rattle.rates.specs.Plans.{number, numbered, planned};
 ghost use Rattle.rates.specs.Search.{nearer as nearer_of, best_up_to};
 
 // The clock: fixed at 8 MHz, fixed at 7.3728 MHz, or external with its frequency in hertz.
@@ -23,12 +23,24 @@ pub struct Plan {
     pub divider: u8,
 }
 
-// A plan, or a refusal's number with a plan of zeros.
-#[derive(Clone, Copy)]
-pub struct Planned {
-    pub refusal: u8,
-    pub plan: Plan,
+// Why no plan is made: the clock is out of range, or the rate is none of the five. Each has its number.
+#[derive(Clone, Copy, PartialEq, Eq)]
+pub enum Refusal {
+    Clock = 9,
+    Rate = 10,
 }
+
+impl Refusal {
+    // As `protocol::Refusal` has one of its own.
+    pub fn number(self) -> u8
+        ensures { result ≡ number self }
+    {
+        self as u8
+    }
+}
+
+// The rates that may be wanted.
+pub const RATES: [u32; 5] = [9600, 19200, 38400, 57600, 115200];
 
 fn hertz(clock: Clock) -> f64
     ensures { result ≡ hertz_of clock }
@@ -43,25 +55,14 @@ fn hertz(clock: Clock) -> f64
 fn is_in_range(f: f64) -> bool
     ensures { result ≡ in_range f }
 {
-    if 2000000.0 <= f {
-        f <= 20000000.0
-    } else {
-        false
-    }
+    2000000.0 <= f && f <= 20000000.0
 }
 
 #[tactic(auto, unfolding(crate::specs::Rates::is_listed))]
 fn is_listed(rate: u32) -> bool
     ensures { result ≡ is_listed rate }
 {
-    match rate {
-        9600 => true,
-        19200 => true,
-        38400 => true,
-        57600 => true,
-        115200 => true,
-        _ => false,
-    }
+    RATES.contains(&rate)
 }
 
 // The plan with one divider, for a clock of f hertz.
@@ -70,23 +71,20 @@ fn plan_at(f: f64, rate: u32, divider: u8) -> Plan
 {
     let wanted = rate as f64;
     let reached = f / 16.0 / ((divider as u32 + 1) as f64);
-    if reached < wanted {
-        Plan {
-            reached,
-            distance: wanted - reached,
-            divider,
-        }
+    let distance = if reached < wanted {
+        wanted - reached
     } else {
-        Plan {
-            reached,
-            distance: reached - wanted,
-            divider,
-        }
+        reached - wanted
+    };
+    Plan {
+        reached,
+        distance,
+        divider,
     }
 }
 
 // The nearer of two plans, and the first where both are as near.
-#[tactic(auto, using(crate::proofs::Steps::second_nearer, crate::proofs::Steps::second_not_nearer))]
+#[tactic(auto, unfolding(crate::specs::Search::nearer))]
 fn nearer(p: Plan, q: Plan) -> Plan
     ensures { result ≡ nearer_of p q }
 {
@@ -98,40 +96,23 @@ fn best(f: f64, rate: u32) -> Plan
     ensures { result ≡ best_up_to f rate 255 }
 {
     let mut best = plan_at(f, rate, 0);
-    let mut k = 0u8;
-    while k < 255 {
-        k += 1;
-        best = nearer(best, plan_at(f, rate, k));
+    // Not over 1..=255, where no fact told the must-fail edit `one_divider_short`, and no fold, whose goal stayed open.
+    for k in 0..255 {
+        best = nearer(best, plan_at(f, rate, k + 1));
     }
     best
 }
 
-fn refused(number: u8) -> Planned
-    ensures { result ≡ refused_with number }
-{
-    Planned {
-        refusal: number,
-        plan: Plan {
-            reached: 0.0,
-            distance: 0.0,
-            divider: 0,
-        },
-    }
-}
-
-// The plan for a clock and a wanted rate. Refusal 9 is the clock, 10 the rate.
-pub fn plan_for(clock: Clock, rate: u32) -> Planned
-    ensures { result ≡ planned clock rate }
+// The plan for a clock and a wanted rate.
+pub fn plan_for(clock: Clock, rate: u32) -> Result<Plan, Refusal>
+    ensures { numbered result ≡ planned clock rate }
 {
     let f = hertz(clock);
     if !is_in_range(f) {
-        return refused(9);
+        return Err(Refusal::Clock);
     }
     if !is_listed(rate) {
-        return refused(10);
+        return Err(Refusal::Rate);
     }
-    Planned {
-        refusal: 0,
-        plan: best(f, rate),
-    }
+    Ok(best(f, rate))
 }

@@ -1,11 +1,12 @@
 // Plans a batch of records (docs/CASES.md, "The format of plans"): standard input to standard output.
 #![tactic(auto)]
 
-ghost use Rattle.std.specs.Prelude.{◌≡◌, ◌<◌};
+ghost use Rattle.std.specs.Prelude.{◌≡◌, ◌≤◌, length};
 ghost use Rattle.std.specs.Float.{binary64};
 ghost use Rattle.std.specs.Float.Ieee.{of_bits};
 
 use rates::Clock;
+use std::fmt;
 use std::io::Read;
 
 // The bytes of a record and of an answer.
@@ -13,45 +14,23 @@ const RECORD: usize = 13;
 
 const ANSWER: usize = 18;
 
-// 3,640 records are read at a time.
-const INPUT: usize = 47320;
+// So many records are read at a time, and their answers written at once: the program takes no heap.
+const RECORDS: usize = 3640;
 
-const OUTPUT: usize = 65520;
-
-// A byte, and 0 past the end.
-fn at(s: &[u8], i: usize) -> u8 {
-    if i < s.len() { s[i] } else { 0 }
+// Why a batch ends early. The line on standard error says it, and the exit status does not.
+#[derive(Clone, Copy)]
+enum Fault {
+    Output,
+    Record,
 }
 
-// Four bytes, the lowest first.
-fn four(s: &[u8], i: usize) -> u64
-    requires { i < 1000000 }
-    ensures { result < 4294967296 }
-{
-    at(s, i) as u64
-        + 256 * at(s, i + 1) as u64
-        + 65536 * at(s, i + 2) as u64
-        + 16777216 * at(s, i + 3) as u64
-}
-
-// Eight bytes, the lowest first.
-fn eight(s: &[u8], i: usize) -> u64
-    requires { i < 900000 }
-{
-    four(s, i) + 4294967296 * four(s, i + 4)
-}
-
-fn bytes_of(n: u64) -> [u8; 8] {
-    [
-        (n % 256) as u8,
-        (n / 256 % 256) as u8,
-        (n / 65536 % 256) as u8,
-        (n / 16777216 % 256) as u8,
-        (n / 4294967296 % 256) as u8,
-        (n / 1099511627776 % 256) as u8,
-        (n / 281474976710656 % 256) as u8,
-        (n / 72057594037927936) as u8,
-    ]
+impl fmt::Display for Fault {
+    fn fmt<W: fmt::Write>(&self, f: &mut fmt::Formatter<W>) -> fmt::Result {
+        match self {
+            Fault::Output => write!(f, "standard output cannot be written"),
+            Fault::Record => write!(f, "a record is not well formed"),
+        }
+    }
 }
 
 // The float of a pattern. Every NaN is one value: of those patterns the language makes no float itself.
@@ -65,112 +44,70 @@ fn float_of(pattern: u64) -> f64
     }
 }
 
-// What is planned, its floats as their patterns.
-#[derive(Drop)]
-struct Shown {
-    refusal: u8,
-    divider: u8,
-    reached: u64,
-    distance: u64,
-}
-
-fn show(clock: Clock, rate: u32) -> Shown {
-    let planned = rates::plan_for(clock, rate);
-    let plan = planned.plan;
-    Shown {
-        refusal: planned.refusal,
-        divider: plan.divider,
-        reached: f64::to_bits(plan.reached),
-        distance: f64::to_bits(plan.distance),
-    }
-}
-
-fn clock(tag: u8, frequency: f64) -> Clock {
-    match tag {
+// The clock and the wanted rate of a record, unless its clock is none.
+fn question(record: [u8; RECORD]) -> Option<(Clock, u32)> {
+    let frequency = <[u8; 8]>::try_from(&record[1..9]).unwrap();
+    let rate = <[u8; 4]>::try_from(&record[9..]).unwrap();
+    let clock = match record[0] {
         0 => Clock::Fixed8,
         1 => Clock::Fixed7,
-        _ => Clock::External(frequency),
-    }
+        2 => Clock::External(float_of(u64::from_le_bytes(frequency))),
+        _ => return None,
+    };
+    Some((clock, u32::from_le_bytes(rate)))
 }
 
-// Puts bytes into a buffer from a place on, as many as fit.
-fn put(out: &mut [u8], from: usize, bytes: &[u8]) {
-    if from < out.len() {
-        slices::copy(&mut out[from..], bytes);
-    }
-}
-
-fn put_answer(out: &mut [u8], from: usize, p: Shown)
-    requires { from < 1000000 }
-{
-    put(out, from, &[p.refusal, p.divider]);
-    put(out, from + 2, &bytes_of(p.reached));
-    put(out, from + 10, &bytes_of(p.distance));
-}
-
-// Answers the record of this number, unless its clock is none.
-fn take_record(records: &[u8], number: usize, out: &mut [u8]) -> bool
-    requires { number < 10000 }
-{
-    let from = number * RECORD;
-    let tag = at(records, from);
-    if 2 < tag {
-        return false;
-    }
-    let frequency = float_of(eight(records, from + 1));
-    let rate = four(records, from + 9) as u32;
-    put_answer(out, number * ANSWER, show(clock(tag, frequency), rate));
-    true
-}
-
-// Answers so many records, up to one that is none, and says how many.
-fn take_records(records: &[u8], count: usize, out: &mut [u8]) -> usize
-    requires { count < 10000 }
-    ensures { result < 10000 }
-{
-    let mut i = 0;
-    while i < count {
-        if !take_record(records, i, out) {
-            return i;
+// What is planned. A refused plan is zeros behind its number.
+fn answer(clock: Clock, rate: u32) -> [u8; ANSWER] {
+    let mut answer = [0; ANSWER];
+    match rates::plan_for(clock, rate) {
+        Ok(plan) => {
+            answer[1] = plan.divider;
+            answer[2..10].copy_from_slice(&plan.reached.to_le_bytes());
+            answer[10..].copy_from_slice(&plan.distance.to_le_bytes());
         }
-        i += 1;
+        Err(refusal) => answer[0] = refusal.number(),
     }
-    count
+    answer
 }
 
-// The end of a batch that something is wrong with. The line on standard error says it, and the exit status does not.
-fn end(rt: &impl Eprint, why: &str) -> bool {
-    let _ = rt.eprintln(why);
-    false
-}
-
-// Reads some records and writes their answers. Says whether there may be more.
-fn take_some(
-    rt: &(impl Print + Eprint),
-    records: &mut impl Read,
-    input: &mut [u8; INPUT],
-    out: &mut [u8; OUTPUT],
-) -> bool {
-    let n = system::fill(records, input);
-    let count = n / RECORD;
-    let done = take_records(input, count, out);
-    if rt.write_all(slices::first(out, done * ANSWER)).is_err() {
-        return end(rt, "replan: standard output cannot be written");
+// Answers the records up to one that is none, and says how many. By their number: zipped with the answers, the goal of the count stayed open.
+fn take(records: &[[u8; RECORD]], answers: &mut [[u8; ANSWER]; RECORDS]) -> usize
+    requires { length records.now ≤ 3640 }
+    ensures { result ≤ length records.now }
+{
+    for (i, record) in records.iter().enumerate() {
+        let Some((clock, rate)) = question(*record) else {
+            return i;
+        };
+        answers[i] = answer(clock, rate);
     }
-    if done < count || n % RECORD != 0 {
-        return end(rt, "replan: a record is not well formed");
-    }
-    n == INPUT
+    records.len()
 }
 
 // A proved loop has to end, and nothing says that the input does: so it has as many turns as no batch uses up.
+fn run(rt: &impl Print, records: &mut impl Read) -> Result<(), Fault> {
+    let mut input = [[0; RECORD]; RECORDS];
+    let mut answers = [[0; ANSWER]; RECORDS];
+    for _ in 0..u64::MAX {
+        let n = system::fill(records, input.as_flattened_mut());
+        let whole = &input[..n / RECORD];
+        let done = take(whole, &mut answers);
+        rt.write_all(answers[..done].as_flattened())
+            .map_err(|_| Fault::Output)?;
+        if done < whole.len() || n % RECORD != 0 {
+            return Err(Fault::Record);
+        }
+        if n < RECORD * RECORDS {
+            return Ok(());
+        }
+    }
+    Ok(())
+}
+
 fn main(rt: HostRuntime) {
     let mut records = rt.stdin();
-    let mut input = [0u8; INPUT];
-    let mut out = [0u8; OUTPUT];
-    for _ in 0..u64::MAX {
-        if !take_some(&rt, &mut records, &mut input, &mut out) {
-            return;
-        }
+    if let Err(fault) = run(&rt, &mut records) {
+        let _ = eprintln!(rt; "replan: {fault}");
     }
 }

@@ -1,11 +1,9 @@
 -- A number that is typed in 15 digits at most is read as the number that its digits stand for, and the power of ten of its decimals: what is read so far stands
 -- before the digits that are left, whose places it does not change, and 15 digits stay under the limit. And whatever is typed, both numbers that are read are below 2 ^ 53.
-use Rattle.std.proofs.Common.{◌≡◌, ℕ, zero, suc, ◌+◌, ◌-◌, ◌*◌, ◌^◌, ◌<◌, ◌≤◌, true, ◌&&◌, eqb, ltb, leb, List, [], ◌∷◌, ◌++◌, length, sym, refl, ap, ◌∙◌, mul-le-mul_right, mul_assoc, mul_comm, add-mul, pow-suc, arith, lit≤, length-append, pow-add, ltb-false, le-ltb, le-leb, leb-true}
-use Rattle.slices.proofs.Lists.{cond_elim, and_both, both_and}
-use Rattle.words.specs.declared.Reading.{Reading}
-use Rattle.words.specs.declared.State.{State}
-use Rattle.words.specs.declared.State.TheVariants.{Start, Whole, Point, Decimals, NotANumber, TooLong}
-use Rattle.words.specs.Numbers.{reading, started, most, with_state, whole_digit, decimal_digit, digit_in, after_point, is_digit, read_byte, read_from, read_text}
+use Rattle.std.proofs.Common.{◌≡◌, ℕ, suc, ◌+◌, ◌-◌, ◌*◌, ◌^◌, ◌<◌, ◌≤◌, true, ◌&&◌, eqb, ltb, leb, List, [], ◌∷◌, ◌++◌, length, sym, refl, ap, ◌∙◌, mul-le-mul_right, mul_assoc, mul_comm, add-mul, pow-suc, arith, lit≤, length-append, pow-add, ltb-false, le-ltb, le-leb, leb-true}
+use Rattle.std.proofs.Math.Nat.{one-le-pow, pow-le-pow_right}
+use Rattle.std.proofs.lemmas.Bool.{cond_both, and_parts, and_from}
+use Rattle.words.specs.Numbers.{State, Start, Whole, Point, Decimals, NotANumber, TooLong, Reading, reading, started, most, with_state, whole_digit, decimal_digit, digit_in, after_point, is_digit, read_byte, read_from, read_text}
 use Rattle.words.specs.Places.{Digits, value, Small}
 
 -- ---- powers of ten
@@ -13,14 +11,10 @@ use Rattle.words.specs.Places.{Digits, value, Small}
 ten : (n k : ℕ) → n * 10 ^ suc k ≡ n * 10 * 10 ^ k
 ten n k = ap (λ (x : ℕ). n * x) (pow-suc 10 k ∙ mul_comm (10 ^ k) 10) ∙ sym (mul_assoc n 10 (10 ^ k))
 
-ten_above : (k : ℕ) → 1 ≤ 10 ^ k
-ten_above zero = lit≤ tt
-ten_above (suc k) = let h : 1 ≤ 10 ^ k = ten_above k in let e : 10 ^ suc k ≡ 10 ^ k * 10 = pow-suc 10 k in omega arith
-
 -- a number before a digit and k more is at least ten times as large with them
 ten_times : (n k : ℕ) → n * 10 ≤ n * 10 ^ suc k
 ten_times n k =
-    let h : 1 * (n * 10) ≤ 10 ^ k * (n * 10) = mul-le-mul_right (n * 10) (ten_above k) in
+    let h : 1 * (n * 10) ≤ 10 ^ k * (n * 10) = mul-le-mul_right (n * 10) (one-le-pow k 10 (lit≤ tt)) in
     let e : n * 10 ^ suc k ≡ n * 10 * 10 ^ k = ten n k in
     let f : n * 10 * 10 ^ k ≡ 10 ^ k * (n * 10) = mul_comm (n * 10) (10 ^ k) in
     omega arith
@@ -30,16 +24,6 @@ next_place : (n d k v : ℕ) → (n * 10 + d) * 10 ^ k + v ≡ n * 10 ^ suc k + 
 next_place n d k v =
     let e : (n * 10 + d) * 10 ^ k ≡ n * 10 * 10 ^ k + d * 10 ^ k = add-mul (n * 10) d (10 ^ k) in
     let f : n * 10 ^ suc k ≡ n * 10 * 10 ^ k = ten n k in
-    omega arith
-
--- 10 ^ k grows with k
-ten_mono : (k m : ℕ) → k ≤ m → 10 ^ k ≤ 10 ^ m
-ten_mono k m h =
-    let j = m - k in
-    let e : m ≡ k + j = omega arith in
-    let f : 10 ^ m ≡ 10 ^ k * 10 ^ j = ap (λ (x : ℕ). 10 ^ x) e ∙ pow-add 10 k j in
-    let g : 1 * 10 ^ k ≤ 10 ^ j * 10 ^ k = mul-le-mul_right (10 ^ k) (ten_above j) in
-    let i : 10 ^ j * 10 ^ k ≡ 10 ^ k * 10 ^ j = mul_comm (10 ^ j) (10 ^ k) in
     omega arith
 
 -- ---- what digits stand for
@@ -71,7 +55,7 @@ digits_append (f ∷ fs) bs d e = (d.0, d.1, digits_append fs bs d.2 e)
 
 digit_is : (b : ℕ) → 0x30 ≤ b → b ≤ 0x39 → is_digit b ≡ true
 unfolding is_digit
-digit_is b l h = both_and (leb 0x30 b) (leb b 0x39) (le-leb 0x30 b l) (le-leb b 0x39 h)
+digit_is b l h = and_from (leb 0x30 b) (leb b 0x39) (le-leb 0x30 b l) (le-leb b 0x39 h)
 
 whole_one : (st : State) (n s b : ℕ) → ((r : Reading) (d : ℕ) → digit_in st r d ≡ whole_digit r d) → 0x30 ≤ b → b ≤ 0x39 → n ≤ most
     → read_byte (reading n s st) b ≡ reading (n * 10 + (b - 0x30)) s Whole
@@ -129,7 +113,7 @@ whole_says [] ds h i = absurd (omega arith)
 whole_says (f ∷ fs) ds h i =
     let k = length fs in
     let b : value (f ∷ fs) < 10 ^ suc k = value_below (f ∷ fs) ds in
-    let m : 10 ^ suc k ≤ 10 ^ 15 = ten_mono (suc k) 15 i in
+    let m : 10 ^ suc k ≤ 10 ^ 15 = pow-le-pow_right (lit≤ tt) i in
     let e : (0 * 10 + (f - 0x30)) * 10 ^ k + value fs ≡ (f - 0x30) * 10 ^ k + value fs = ap (λ (x : ℕ). x * 10 ^ k + value fs) (first (f - 0x30)) in
     ap (λ (r : Reading). read_from r fs) (whole_one Start 0 1 f (λ r d. unfold digit_in in refl) ds.0 ds.1 (lit≤ tt))
     ∙ wholes fs (0 * 10 + (f - 0x30)) 1 ds.2 (omega arith)
@@ -155,11 +139,11 @@ decimals_say fs (b ∷ bs) ds es h i l =
     let d = b - 0x30 in
     let n : length (fs ++ (b ∷ bs)) ≡ length fs + suc k = length-append fs (b ∷ bs) in
     let v : value (fs ++ (b ∷ bs)) < 10 ^ length (fs ++ (b ∷ bs)) = value_below (fs ++ (b ∷ bs)) (digits_append fs (b ∷ bs) ds es) in
-    let m : 10 ^ length (fs ++ (b ∷ bs)) ≤ 10 ^ 15 = ten_mono (length (fs ++ (b ∷ bs))) 15 l in
+    let m : 10 ^ length (fs ++ (b ∷ bs)) ≤ 10 ^ 15 = pow-le-pow_right (lit≤ tt) l in
     let a : value (fs ++ (b ∷ bs)) ≡ value fs * 10 ^ suc k + (d * 10 ^ k + value bs) = value_append fs (b ∷ bs) in
     let e : (value fs * 10 + d) * 10 ^ k + value bs ≡ value fs * 10 ^ suc k + (d * 10 ^ k + value bs) = next_place (value fs) d k (value bs) in
     let t : value fs * 10 ≤ value fs * 10 ^ suc k = ten_times (value fs) k in
-    let u : 10 ^ suc k ≤ 10 ^ 14 = ten_mono (suc k) 14 (omega arith) in
+    let u : 10 ^ suc k ≤ 10 ^ 14 = let v : suc k ≤ 14 = omega arith in pow-le-pow_right (lit≤ tt) v in
     let w : 1 * 10 * 10 ^ k ≡ 10 ^ suc k = sym (pow-suc 10 k ∙ mul_comm (10 ^ k) 10) in
     up_to_point fs (b ∷ bs) ds h (omega arith)
     ∙ ap (λ (r : Reading). read_from r bs) (decimal_one Point (value fs) 1 b (λ r x. unfold digit_in in refl) es.0 es.1 (omega arith) (lit≤ tt))
@@ -175,14 +159,14 @@ kept r st s = record { number = s.number; scale = s.scale }
 whole_small : (r : Reading) (d : ℕ) → d ≤ 9 → Small r → Small (whole_digit r d)
 unfolding whole_digit
 whole_small r d h s =
-    cond_elim Small (ltb most r.number) (with_state r TooLong) (reading (r.number * 10 + d) r.scale Whole) (λ e. kept r TooLong s)
+    cond_both (ltb most r.number) (with_state r TooLong) (reading (r.number * 10 + d) r.scale Whole) Small (λ e. kept r TooLong s)
     (λ e. let l : r.number ≤ most = ltb-false most r.number e in record { number = omega arith; scale = s.scale })
 
 decimal_small : (r : Reading) (d : ℕ) → d ≤ 9 → Small r → Small (decimal_digit r d)
 unfolding decimal_digit
 decimal_small r d h s =
-    cond_elim Small (ltb most r.number) (with_state r TooLong) _ (λ e. kept r TooLong s)
-    (λ e. cond_elim Small (ltb most r.scale) (with_state r TooLong) (reading (r.number * 10 + d) (r.scale * 10) Decimals) (λ f. kept r TooLong s)
+    cond_both (ltb most r.number) (with_state r TooLong) _ Small (λ e. kept r TooLong s)
+    (λ e. cond_both (ltb most r.scale) (with_state r TooLong) (reading (r.number * 10 + d) (r.scale * 10) Decimals) Small (λ f. kept r TooLong s)
     (λ f. let l : r.number ≤ most = ltb-false most r.number e in let m : r.scale ≤ most = ltb-false most r.scale f in record { number = omega arith; scale = omega arith }))
 
 digit_small : (st : State) (r : Reading) (d : ℕ) → d ≤ 9 → Small r → Small (digit_in st r d)
@@ -197,9 +181,9 @@ digit_small TooLong r d h s = s
 byte_small : (r : Reading) (b : ℕ) → Small r → Small (read_byte r b)
 unfolding read_byte is_digit
 byte_small r b s =
-    cond_elim Small (leb 0x30 b && leb b 0x39) _ _
-    (λ e. let u : b ≤ 0x39 = leb-true b 0x39 (and_both (leb 0x30 b) (leb b 0x39) e).1 in digit_small r.state r (b - 0x30) (omega arith) s)
-    (λ e. cond_elim Small (eqb b 0x2E) (with_state r (after_point r.state)) (with_state r NotANumber) (λ p. kept r _ s) (λ p. kept r _ s))
+    cond_both (leb 0x30 b && leb b 0x39) _ _ Small
+    (λ e. let u : b ≤ 0x39 = leb-true b 0x39 (and_parts (leb 0x30 b) (leb b 0x39) e).1 in digit_small r.state r (b - 0x30) (omega arith) s)
+    (λ e. cond_both (eqb b 0x2E) (with_state r (after_point r.state)) (with_state r NotANumber) Small (λ p. kept r _ s) (λ p. kept r _ s))
 
 from_small : (r : Reading) (bs : List ℕ) → Small r → Small (read_from r bs)
 from_small r [] s = s

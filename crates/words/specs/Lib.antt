@@ -1,4 +1,5 @@
 pub mod Numbers
+pub mod Partly
 pub mod Places
 pub mod Words
 pub mod Shown

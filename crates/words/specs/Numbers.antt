@@ -1,8 +1,20 @@
 -- A number as it is typed: decimal digits, at most one point, a digit on either side of it. What is read is the number without its point, and the power of ten by which to divide it.
 use Rattle.std.specs.Prelude.{ℕ, ◌+◌, ◌-◌, ◌*◌, Bool, cond, ◌&&◌, List, [], ◌∷◌, ◌==◌, nat_le, nat_lt}
-use Rattle.words.specs.declared.Reading.{Reading}
-use Rattle.words.specs.declared.State.{State}
-use Rattle.words.specs.declared.State.TheVariants.{Start, Whole, Point, Decimals, NotANumber, TooLong}
+
+-- where the reading of a number stands
+pub data State : Type 0 where
+  Start : State
+  Whole : State
+  Point : State
+  Decimals : State
+  NotANumber : State
+  TooLong : State
+
+-- a number without its point, the power of ten by which to divide it, and where its reading stands
+pub record Reading : Type 0 where
+  pub number : ℕ
+  pub scale : ℕ
+  pub state : State
 
 abbrev pub reading : ℕ → ℕ → State → Reading
 reading n s state = record { number = n; scale = s; state = state }

@@ -1,6 +1,6 @@
 -- The number that decimal digits stand for: each counts by its place. Written apart from how a number is read.
 use Rattle.std.specs.Prelude.{ℕ, ◌+◌, ◌-◌, ◌*◌, ◌^◌, ◌<◌, ◌≤◌, List, [], ◌∷◌, length}
-use Rattle.words.specs.declared.Reading.{Reading}
+use Rattle.words.specs.Numbers.{Reading}
 
 -- each byte is a digit in ASCII
 abbrev pub Digits : List ℕ → Type 0

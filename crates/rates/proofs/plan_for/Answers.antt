@@ -13,12 +13,11 @@ tested c f b h e = sym (taken_in_range c) ∙ ap in_range (sym h) ∙ sym e
 
 pub returns-then-not-is_in_range : goal.returns-then-not-is_in_range
 returns-then-not-is_in_range c =
-    c.refused.ensures ∙ not_taken c.args.clock c.args.rate (tested _ _ _ c.hertz-f.ensures c.if-not-is_in_range.ensures)
+    not_taken c.args.clock c.args.rate (tested _ _ _ c.hertz-f.ensures c.if-not-is_in_range.ensures)
 
 pub returns-then-not-is_listed : goal.returns-then-not-is_listed
 returns-then-not-is_listed c =
-    c.refused-then-not-is_listed.ensures
-    ∙ not_listed c.args.clock c.args.rate (tested _ _ _ c.hertz-f.ensures c.if-not-is_in_range.ensures) (sym c.if-not-is_listed.ensures)
+    not_listed c.args.clock c.args.rate (tested _ _ _ c.hertz-f.ensures c.if-not-is_in_range.ensures) (sym c.if-not-is_listed.ensures)
 
 pub returns : goal.returns
 returns c =

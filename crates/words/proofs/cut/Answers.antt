@@ -3,6 +3,7 @@ use Rattle.std.proofs.Common.{T, sym, ◌∙◌, subst}
 use lib.Ieee.{of_bits, neg}
 use Rattle.words.specs.Shown.{cut}
 use Rattle.words.proofs.cut.Goals as goal
+use Rattle.words.proofs.cut.Goals.{else-x-via-then-x+else-x-2, else-x-via-else-x}
 
 pub truncating_f64_to_u64-requires-clause-lower_bound : goal.truncating_f64_to_u64-requires-clause-lower_bound
 unfolding of_bits neg
@@ -16,10 +17,6 @@ pub returns-then-x-2 : goal.returns-then-x-2
 unfolding cut of_bits neg
 returns-then-x-2 c = c.truncating_f64_to_u64.ensures ∙ rw (c.if-x.true, c.if-x-2.true)
 
-pub returns-then-x : goal.returns-then-x
+pub returns-else-x : goal.returns-else-x
 unfolding cut of_bits neg
-returns-then-x c = rw (c.if-x.true, c.if-x-2.false)
-
-pub returns : goal.returns
-unfolding cut of_bits neg
-returns c = rw c.if-x.false
+returns-else-x c = elim c.else-x.branch [ else-x-via-then-x+else-x-2 w ↦ rw (w.if-x.true, w.if-x-2.false) | else-x-via-else-x w ↦ rw w.if-x.false ]

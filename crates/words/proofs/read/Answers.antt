@@ -1,17 +1,15 @@
--- Before the first byte the rest is the whole; a turn reads the next byte of it, and after the last one nothing is left.
+-- Before the first byte the rest is the whole; where the reading stops at a byte, the whole is no number.
 use Rattle.std.proofs.Common.{refl, sym, ◌∙◌, arith}
+use Rattle.std.proofs.lemmas.Result.{err_from_is_err_and}
 use Rattle.words.specs.Numbers.{read_text}
-use Rattle.words.proofs.Texts.{text_turn, text_ends}
+use Rattle.words.proofs.Says.{stops}
 use Rattle.words.proofs.read.Goals as goal
 
-pub loop-i-init : goal.loop-i-init
+pub loop-b-init : goal.loop-b-init
 unfolding read_text
-loop-i-init c = (omega arith, refl)
+loop-b-init c = refl
 
-pub loop-i-preserved : goal.loop-i-preserved
-loop-i-preserved c =
-    let l = c.loop-i in
-    (omega arith, rw c.read_byte-r.ensures (text_turn c.args.text.now l.r l.i (omega arith) ∙ l.invariant.1))
-
-pub returns : goal.returns
-returns c = let l = c.loop-i in sym (text_ends c.args.text.now l.r l.i (omega arith)) ∙ l.invariant.1
+pub returns-in_err-r : goal.returns-in_err-r
+returns-in_err-r c =
+    let p = err_from_is_err_and c.from_residual.result c.from_residual.ensures.1 in
+    rw (p.1, p.2) (stops c.args.text.now _ _ _ (omega arith) c.loop-b.invariant (sym c.byte.ensures ∙ c.in_err-r.was))

@@ -1,6 +1,6 @@
 -- Each of the two whole numbers becomes the float nearest to it, and the quotient is rounded.
 use Rattle.rates.specs.Clocks.{float}
-use Rattle.words.proofs.external.Goals as goal
+use Rattle.words.proofs.Partial.external.Goals as goal
 
 pub returns : goal.returns
 unfolding float
