@@ -9,21 +9,17 @@ fn stop(rt: &impl Eprint, why: &str) {
 
 fn main(rt: HostRuntime) {
     // The flash: an array here, what the device stores elsewhere. All 00, it is not blank, and its ID is seven zeros.
-    let mut image = [0u8; flash::IMAGE];
-    let started = port::start(&image, Inputs { protection: 3 });
-    if started.refusal != 0 {
+    let mut image = [0; flash::IMAGE];
+    let Ok(fresh) = port::start(&image, Inputs { protection: 3 }) else {
         return stop(&rt, "embed: the start is refused");
-    }
+    };
     // Sixteen zeros and B0 wake the unit, 70 asks for its status, FB for its version: they reply 1, 2 and 8 bytes.
-    let mut bytes = [0u8; 19];
-    bytes[16] = 0xB0;
-    bytes[17] = 0x70;
-    bytes[18] = 0xFB;
-    let mut area = [0u8; 11 + 256];
-    let answer = port::run(started.unit, &mut image, &bytes, &mut area);
-    if answer.refusal != 0 {
+    let mut bytes = [0; 19];
+    bytes[16..].copy_from_slice(&[0xB0, 0x70, 0xFB]);
+    let mut area = [0; 11 + 256];
+    let Ok(answer) = port::run(fresh, &mut image, &bytes, &mut area) else {
         return stop(&rt, "embed: the run is refused");
-    }
+    };
     if answer.taken < bytes.len() {
         return stop(&rt, "embed: the area has too little room");
     }

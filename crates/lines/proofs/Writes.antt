@@ -1,47 +1,43 @@
--- Text written after text is the two joined, since the second write keeps what stands before its place and what stands after its end.
-use native.Mathlib.Omega.{arith}
-use native.Mathlib.Nat.{add-zero, zero-add, add_assoc}
-use native.Mathlib.Numerals.{unary_clauses}
-use Prim.Native.Nat.{ℕ, ◌+◌, ◌≤◌}
-use mathlib.Core.Path.{◌≡◌, ap, sym, ◌∙◌}
-use mathlib.Core.List.{List, [], ◌∷◌, ◌++◌, append_assoc, append-nil}
-use lib.ListN.{length, take, drop, set, length-append, take-append-drop}
-use lib.Seq.{length-take-le, take_at, drop_at, drop-drop, sets, sets-eq}
-use Rattle.lines.specs.Text.{Laid, leaves, laid, wrote}
+-- Text written behind text is the two joined, since the second write keeps what stands before its place and what stands after its end.
+use Rattle.std.proofs.Common.{◌≡◌, ℕ, ◌+◌, ◌-◌, ◌≤◌, List, [], ◌++◌, length, take, drop, ap, refl, sym, ◌∙◌, arith, append_assoc, append-nil, length-append, add-zero}
+use Rattle.std.proofs.Math.Seq.{length-take-le, take_at, drop_at, drop-drop}
+use Rattle.std.proofs.lemmas.List.{take-append-drop}
+use borrow.Rule.Slice.PartMut.{put_mid}
+use Rattle.lines.specs.declared.Line.{Line}
+use Rattle.lines.specs.Text.{leaves, laid}
+use Rattle.lines.specs.Writing.{Adds}
 
-pub wrote_ends : (at r : ℕ) (s out out' : List ℕ) → leaves r out' ≡ wrote at s out → r ≡ at + length s
-unfolding wrote
-wrote_ends at r s out out' p = ap (λ (l : Laid). l.len) p
+pub adds_none : (a : Line) → Adds [] a a
+adds_none a = record {
+  same_buffer = refl;
+  same_length = refl;
+  end = sym (add-zero a.len);
+  bytes = simp (append-nil, take-append-drop);
+}
 
-pub wrote_then : (at : ℕ) (s t out : List ℕ) (r r' : ℕ) (out' out'' : List ℕ) → leaves r out' ≡ wrote at s out → leaves r' out'' ≡ wrote r t out'
-    → at ≤ length out → leaves r' out'' ≡ wrote at (s ++ t) out
-unfolding wrote
-wrote_then at s t out r r' out' out'' p q h =
-    let n : r ≡ at + length s = ap (λ (l : Laid). l.len) p in
-    let e : out' ≡ take at out ++ s ++ drop r out = ap (λ (l : Laid). l.out) p ∙ rw n in
-    let f : length (take at out ++ s) ≡ r = simp (length-append, length-take-le at out h) (sym n) in
-    let k : take r out' ≡ take at out ++ s = rw e (take_at (take at out ++ s) (drop r out) r f) in
-    let d : drop r out' ≡ drop r out = rw e (drop_at (take at out ++ s) (drop r out) r f) in
-    let z : drop (r + length t) out' ≡ drop (r + length t) out = sym (drop-drop (length t) r out') ∙ rw d (drop-drop (length t) r out) in
-    q ∙ rw (k, z, length-append, n, append_assoc (take at out) s t, add_assoc)
+pub adds_then : {s t : List ℕ} {a b c : Line} → a.len ≤ length a.out.now → Adds s a b → Adds t b c → Adds (s ++ t) a c
+adds_then {s} {t} {a} {b} {c} h p q =
+    let f : length (take a.len a.out.now ++ s) ≡ b.len = simp (length-append, length-take-le a.len a.out.now h) (sym p.end) in
+    let k : take b.len b.out.now ≡ take a.len a.out.now ++ s = rw p.bytes (take_at _ _ b.len f) in
+    let d : drop b.len b.out.now ≡ drop b.len a.out.now = rw p.bytes (drop_at _ _ b.len f) in
+    let e : c.len ≡ b.len + length t = q.end in
+    let z : drop c.len b.out.now ≡ drop c.len a.out.now = rw e (sym (drop-drop (length t) b.len b.out.now) ∙ rw d (drop-drop (length t) b.len a.out.now)) in
+    record {
+      same_buffer = q.same_buffer ∙ p.same_buffer;
+      same_length = q.same_length ∙ p.same_length;
+      end = omega (arith, length-append s t);
+      bytes = q.bytes ∙ rw (k, z, append_assoc (take a.len a.out.now) s t);
+    }
 
-pub wrote_none : (at : ℕ) (out : List ℕ) → leaves at out ≡ wrote at [] out
-unfolding wrote
-wrote_none at out = simp (add-zero, append-nil, take-append-drop)
+-- a line that began at the front of a buffer
+pub adds_front : {s : List ℕ} {a b : Line} → Adds s a b → a.len ≡ 0 → leaves b.len b.out.now ≡ laid s a.out.now
+unfolding laid
+adds_front {s} {a} {b} p h =
+    let e : b.len ≡ length s = omega arith in
+    rw (p.bytes, h, e)
 
-pub wrote_stores : (at : ℕ) (s out : List ℕ) → at + length s ≤ length out → leaves (at + length s) (sets out at s) ≡ wrote at s out
-unfolding wrote
-wrote_stores at s out h = ap (leaves (at + length s)) (sets-eq s out at h)
-
-pub wrote_three : (at x y z : ℕ) (out : List ℕ) → at + 3 ≤ length out
-    → leaves (at + 3) (set (set (set out at x) (at + 1) y) (at + 2) z) ≡ wrote at (x ∷ y ∷ z ∷ []) out
-wrote_three at x y z out h = simp unary_clauses (simp unary_clauses at (wrote_stores at (x ∷ y ∷ z ∷ []) out h))
-
-pub wrote_front : (s out : List ℕ) → wrote 0 s out ≡ laid s out
-unfolding wrote laid
-wrote_front s out = simp zero-add
-
--- a line in two texts
-pub in_two : (s t line out : List ℕ) (r r' : ℕ) (out' out'' : List ℕ) → leaves r out' ≡ wrote 0 s out → leaves r' out'' ≡ wrote r t out' → s ++ t ≡ line
-    → leaves r' out'' ≡ laid line out
-in_two s t line out r r' out' out'' p q e = wrote_then 0 s t out r r' out' out'' p q (omega arith) ∙ rw e (wrote_front line out)
+-- a copy into a part of a buffer
+pub part_is : (at : ℕ) (s copied out : List ℕ) → copied ≡ s → put_mid at (at + length s - at) out copied ≡ take at out ++ s ++ drop (at + length s) out
+part_is at s copied out e =
+    let k : at + length s - at ≡ length s = omega arith in
+    rw (k, e) (ap (λ l. take at out ++ (s ++ l)) (drop-drop (length s) at out) ∙ sym (append_assoc (take at out) s _))

@@ -1,2 +1,3 @@
 pub mod Ascii
 pub mod Text
+pub mod Writing

@@ -1,5 +1,5 @@
 -- The text that the bench writes (document 01, "The bench program"), line by line, as ASCII codes. Every line ends in one newline.
-use Rattle.std.specs.Prelude.{ℕ, zero, suc, ◌+◌, ◌-◌, ◌/◌, ◌%◌, cond, List, [], ◌∷◌, ◌++◌, ltb, length, take, drop}
+use Rattle.std.specs.Prelude.{ℕ, zero, suc, ◌+◌, ◌-◌, ◌/◌, ◌%◌, cond, List, [], ◌∷◌, ◌++◌, ltb, length, drop}
 use Prim.Native.Char.{code}
 use Rattle.lines.specs.Ascii.{ascii}
 
@@ -54,7 +54,3 @@ leaves n l = record { len = n; out = l }
 -- a text at the front of a buffer, whose other bytes stay
 unfoldable pub laid : List ℕ → List ℕ → Laid
 laid text out = leaves (length text) (text ++ drop (length text) out)
-
--- a text from a place of a buffer on, whose other bytes stay
-unfoldable pub wrote : ℕ → List ℕ → List ℕ → Laid
-wrote at text out = leaves (at + length text) (take at out ++ text ++ drop (at + length text) out)

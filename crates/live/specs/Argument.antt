@@ -1,26 +1,22 @@
 -- The protection as the live program's argument gives it: decimal digits, read from the left.
-use Rattle.std.specs.Prelude.{ℕ, ◌+◌, ◌-◌, ◌*◌, Bool, cond, ◌&&◌, List, [], ◌∷◌, ltb, leb}
-use Rattle.live.specs.declared.Given.{Given}
-use Rattle.live.specs.declared.Given.TheVariants.{Number, TooLarge, NotANumber}
+use Rattle.std.specs.Prelude.{ℕ, ◌+◌, ◌-◌, ◌*◌, Bool, cond, ◌&&◌, List, [], ◌∷◌, ltb, leb, Result, Ok, Err}
+use Rattle.live.specs.declared.Unread.{Unread}
+use Rattle.live.specs.declared.Unread.TheVariants.{TooLarge, NotANumber}
 
 -- the digits 0 to 9 in ASCII
 unfoldable pub is_digit : ℕ → Bool
 is_digit b = leb 0x30 b && leb b 0x39
 
 -- a number is taken up to 255
-unfoldable pub told : ℕ → Given
-told n = cond (ltb 255 n) TooLarge (Number n)
+unfoldable pub told : ℕ → Result ℕ Unread
+told n = cond (ltb 255 n) (Err TooLarge) (Ok n)
 
 -- what the rest of a text says after digits that made n
-abbrev pub given_from : ℕ → List ℕ → Given
+abbrev pub given_from : ℕ → List ℕ → Result ℕ Unread
 given_from n [] = told n
-given_from n (b ∷ bs) = cond (is_digit b) (given_from (n * 10 + (b - 0x30)) bs) NotANumber
+given_from n (b ∷ bs) = cond (is_digit b) (given_from (n * 10 + (b - 0x30)) bs) (Err NotANumber)
 
 -- what a text says; an empty one is no number
-abbrev pub given : List ℕ → Given
-given [] = NotANumber
+abbrev pub given : List ℕ → Result ℕ Unread
+given [] = Err NotANumber
 given (b ∷ bs) = given_from 0 (b ∷ bs)
-
--- a number and one digit more, held at 256 once it is over 255
-unfoldable pub capped : ℕ → ℕ → ℕ
-capped n d = cond (ltb 255 n) 256 (cond (ltb 255 (n * 10 + d)) 256 (n * 10 + d))

@@ -2,7 +2,7 @@
 use Rattle.std.specs.Prelude.{ℕ, Bool, not, List}
 use Rattle.slices.specs.Lists.{same}
 use Rattle.unit.specs.declared.Unit.{Unit as Port}
-use Rattle.protocol.specs.Calls.{Left, left, byte_call}
+use Rattle.protocol.specs.Calls.{Left, left, numbered, byte_call}
 use Rattle.live.specs.declared.Turn.{Turn}
 
 pub record Turned : Type 0 where
@@ -10,7 +10,7 @@ pub record Turned : Type 0 where
   pub changed : Bool
 
 abbrev pub turned : Turn → List ℕ → List ℕ → Turned
-turned r img area = record { all = left r.answer img area; changed = r.changed }
+turned r img area = record { all = left (numbered r.answer) img area; changed = r.changed }
 
 unfoldable pub turn_call : Port → List ℕ → List ℕ → List ℕ → ℕ → Turned
 turn_call u img stored area b =

@@ -2,73 +2,49 @@
 #![tactic(auto)]
 
 ghost use Rattle.std.specs.Prelude.{◌≡◌};
-ghost use Rattle.live.specs.Argument.{capped, given};
+ghost use Rattle.live.specs.Argument.{given};
 ghost use Rattle.live.specs.Turns.{turned, turn_call};
 
-use protocol::Answer;
+use protocol::{Answer, Refused};
 use unit::Unit;
 
-// What the argument says.
+// Why the argument gives no protection. (The words of the planner are read by another rule.)
 #[derive(Clone, Copy)]
-pub enum Given {
-    Number(u8),
+pub enum Unread {
     TooLarge,
     NotANumber,
 }
 
-// What a byte leads to: the port's answer, and whether the image is no longer the stored one.
+// What a byte leads to: the port's answer, and, refused or not, whether the image is no longer the stored one.
 #[derive(Clone, Copy)]
 pub struct Turn {
-    pub answer: Answer,
+    pub answer: Result<Answer, Refused>,
     pub changed: bool,
 }
 
-// One digit more; what is over 255 stays at 256.
-fn grown(n: u32, digit: u8) -> u32
-    ensures { result ≡ capped n digit }
-{
-    if 255 < n {
-        return 256;
-    }
-    let more = n * 10 + digit as u32;
-    if 255 < more { 256 } else { more }
-}
-
-// A protection in decimal digits.
-pub fn protection(text: &[u8]) -> Given
+// A protection in decimal digits, and not by `parse`, which takes a sign. A number that is too large stays so, whatever digits follow, and what is no digit is told first.
+pub fn protection(text: &[u8]) -> Result<u8, Unread>
     ensures { result ≡ given text.now }
 {
-    if text.len() == 0 {
-        return Given::NotANumber;
+    if text.is_empty() {
+        return Err(Unread::NotANumber);
     }
-    let mut n = 0;
-    let mut i = 0;
-    while i < text.len() {
-        let b = text[i];
-        if b < b'0' {
-            return Given::NotANumber;
-        }
-        if b'9' < b {
-            return Given::NotANumber;
-        }
-        n = grown(n, b - b'0');
-        i += 1;
+    let mut n: u32 = 0;
+    for &b in text {
+        let digit = char::from(b).to_digit(10).ok_or(Unread::NotANumber)?;
+        n = n.saturating_mul(10).saturating_add(digit);
     }
-    if 255 < n {
-        return Given::TooLarge;
-    }
-    Given::Number(n as u8)
+    u8::try_from(n).map_err(|_| Unread::TooLarge)
 }
 
+// (Its arguments stand apart: docs/PINNED.md speaks of each.)
 // Gives a byte to the port, and says whether the image that it leaves is to be saved.
+#[tactic(auto, unfolding(crate::specs::Turns::turn_call))]
 pub fn give(u: Unit, image: &mut [u8], stored: &[u8], reply: &mut [u8], b: u8) -> Turn
     ensures { turned result image.new reply.new
         ≡ turn_call u image.old stored.now reply.old b }
 {
     let answer = port::byte(u, image, reply, b);
     let changed = !slices::is_same(stored, image);
-    Turn {
-        answer: answer,
-        changed: changed,
-    }
+    Turn { answer, changed }
 }

@@ -1,88 +1,111 @@
-// The places of a case's fields, and whether they fill it exactly.
-ghost use Rattle.std.specs.Prelude.{◌<◌};
+// A case, read: docs/CASES.md has its fields in their order.
+ghost use Rattle.std.specs.Prelude.{◌≤◌};
 
-use crate::{bytes, record};
+use crate::reading::{Broken, Part, Parts, Rest};
+use crate::record;
+use unit::{Inputs, Unit};
 
-pub(crate) const MODE: usize = 0;
-
-pub(crate) const PROTECTION: usize = 1;
-
-pub(crate) const TRACE: usize = 2;
-
-pub(crate) const RECORD: usize = 3;
-
-pub(crate) const SIZE: usize = 271;
-
-pub(crate) const FILL: usize = 273;
-
-pub(crate) const PATCHES: usize = 274;
-
-pub(crate) const FIRST_PATCH: usize = 276;
-
-const MAX_IMAGE: usize = 32768;
-
-const MAX_AREA: usize = 16384;
-
-// How many bytes the patch, or the group, has that stands at the front.
-pub(crate) fn patch_size(patch: &[u8]) -> usize
-    ensures { result < 259 }
-{
-    3 + bytes::at(patch, 2) as usize
+// How a case begins: with a start call, or with the unit that it gives.
+#[derive(Clone, Copy)]
+pub(crate) enum Begin {
+    Start(Inputs),
+    Given(Unit),
 }
 
-pub(crate) fn group_size(group: &[u8]) -> usize
-    ensures { result < 65542 }
-{
-    6 + bytes::pair(group, 4)
+// Bytes that stand at a place of the image.
+#[derive(Clone, Copy)]
+pub(crate) struct Patch<'a> {
+    pub(crate) offset: u16,
+    pub(crate) bytes: &'a [u8],
 }
 
-// Where the patches end: past the case's end where they do not fit.
-fn after_patches(case: &[u8]) -> usize
-    ensures { result < 20000000 }
-{
-    let count = bytes::pair(case, PATCHES);
-    let mut place = FIRST_PATCH;
-    let mut i = 0;
-    while i < count {
-        place += patch_size(bytes::rest(case, place));
-        i += 1;
+// What a group's bytes are given to: byte calls, one for each of them, or one run call.
+#[derive(Clone, Copy)]
+pub(crate) enum Kind {
+    Bytes,
+    Run,
+}
+
+#[derive(Clone, Copy)]
+pub(crate) struct Group<'a> {
+    pub(crate) kind: Kind,
+    pub(crate) area_len: usize,
+    pub(crate) fill: u8,
+    pub(crate) bytes: &'a [u8],
+    ghost area_fits: { area_len ≤ 16384 },
+}
+
+#[derive(Drop)]
+pub(crate) struct Case<'a> {
+    pub(crate) begin: Begin,
+    pub(crate) is_traced: bool,
+    pub(crate) image_len: usize,
+    pub(crate) fill: u8,
+    pub(crate) patches: Parts<'a, Patch<'a>>,
+    pub(crate) groups: Parts<'a, Group<'a>>,
+    ghost image_fits: { image_len ≤ 32768 },
+}
+
+impl<'a> Part<'a> for Patch<'a> {
+    fn read(rest: &mut Rest<'a>) -> Result<Patch<'a>, Broken> {
+        let offset = rest.number()?;
+        let count = rest.byte()?;
+        let bytes = rest.bytes(count.into())?;
+        Ok(Patch { offset, bytes })
     }
-    place
 }
 
-// A kind and an area that occur.
-fn is_group(group: &[u8]) -> bool {
-    bytes::at(group, 0) <= 1 && bytes::pair(group, 1) <= MAX_AREA
-}
-
-// The groups begin at this place with their number, and the last ends where the case does.
-fn groups_fill(case: &[u8], from: usize) -> bool
-    requires { from < 20000000 }
-{
-    let count = bytes::pair(bytes::rest(case, from), 0);
-    let mut place = from + 2;
-    let mut i = 0;
-    while i < count {
-        let group = bytes::rest(case, place);
-        if !is_group(group) {
-            return false;
+impl<'a> Part<'a> for Group<'a> {
+    fn read(rest: &mut Rest<'a>) -> Result<Group<'a>, Broken> {
+        let kind = if rest.flag()? { Kind::Run } else { Kind::Bytes };
+        let area_len = usize::from(rest.number()?);
+        if Case::MOST_AREA < area_len {
+            return Err(Broken);
         }
-        place += group_size(group);
-        i += 1;
+        let fill = rest.byte()?;
+        let count = rest.number()?;
+        let bytes = rest.bytes(count.into())?;
+        Ok(Group {
+            kind,
+            area_len,
+            fill,
+            bytes,
+        })
     }
-    place == case.len()
 }
 
-fn is_head(case: &[u8]) -> bool {
-    bytes::at(case, MODE) <= 1
-        && bytes::at(case, TRACE) <= 1
-        && bytes::pair(case, SIZE) <= MAX_IMAGE
-}
+impl<'a> Case<'a> {
+    pub(crate) const MOST_IMAGE: usize = 32768;
 
-fn is_begun(case: &[u8]) -> bool {
-    bytes::at(case, MODE) == 0 || record::is_unit(bytes::rest(case, RECORD))
-}
+    pub(crate) const MOST_AREA: usize = 16384;
 
-pub(crate) fn is_well_formed(case: &[u8]) -> bool {
-    is_head(case) && is_begun(case) && groups_fill(case, after_patches(case))
+    // A case's bytes, which its fields fill exactly.
+    pub(crate) fn read(bytes: &'a [u8]) -> Result<Case<'a>, Broken> {
+        let mut rest = Rest(bytes);
+        let is_given = rest.flag()?;
+        let protection = rest.byte()?;
+        let is_traced = rest.flag()?;
+        let begin = if is_given {
+            Begin::Given(record::read(&mut rest)?)
+        } else {
+            rest.bytes(record::SIZE)?;
+            Begin::Start(Inputs { protection })
+        };
+        let image_len = usize::from(rest.number()?);
+        if Case::MOST_IMAGE < image_len {
+            return Err(Broken);
+        }
+        let fill = rest.byte()?;
+        let patches = Parts::read(&mut rest)?;
+        let groups = Parts::read(&mut rest)?;
+        rest.end()?;
+        Ok(Case {
+            begin,
+            is_traced,
+            image_len,
+            fill,
+            patches,
+            groups,
+        })
+    }
 }

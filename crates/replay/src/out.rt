@@ -1,23 +1,45 @@
-// Standard output, by way of a buffer: `used` is how many of its bytes wait.
-use crate::bytes;
+// Standard output, by way of a buffer.
+ghost use Rattle.std.specs.Prelude.{◌≤◌};
 
-pub(crate) fn write(rt: &impl Print, buffer: &[u8], used: usize) {
-    let _ = rt.write_all(bytes::first(buffer, used));
+// So many bytes at the front of the buffer wait. A length stands beside it: std's BufWriter has its buffer from the heap, whose C functions this program would then trust.
+#[derive(Drop)]
+pub(crate) struct Output<'a, P: Print> {
+    to: &'a P,
+    buffer: [u8; 65536],
+    waiting: usize,
+    ghost fits: { waiting ≤ 65536 },
 }
 
-// Puts more bytes into the buffer, which is written out first where they do not fit any more. Answers how many then wait.
-pub(crate) fn emit(rt: &impl Print, buffer: &mut [u8], used: usize, more: &[u8]) -> usize {
-    let n = more.len();
-    if buffer.len() < n {
-        write(rt, buffer, used);
-        let _ = rt.write_all(more);
-        return 0;
+// What standard output does not take is left out, and the batch goes on.
+impl<'a, P: Print> Output<'a, P> {
+    pub(crate) fn new(to: &'a P) -> Output<'a, P> {
+        Output {
+            to,
+            buffer: [0; 65536],
+            waiting: 0,
+        }
     }
-    if buffer.len() - n < used {
-        write(rt, buffer, used);
-        slices::copy(buffer, more);
-        return n;
+
+    // Writes what waits.
+    pub(crate) fn flush(&mut self) {
+        let _ = self.to.write_all(&self.buffer[..self.waiting]);
+        self.waiting = 0;
     }
-    slices::copy(&mut buffer[used..], more);
-    used + n
+
+    // More bytes, which wait where they fit.
+    pub(crate) fn put(&mut self, bytes: &[u8]) {
+        if self.buffer.len() - self.waiting < bytes.len() {
+            self.flush();
+        }
+        let end = self.waiting + bytes.len();
+        match self.buffer.get_mut(self.waiting..end) {
+            Some(room) => {
+                room.copy_from_slice(bytes);
+                self.waiting = end;
+            }
+            None => {
+                let _ = self.to.write_all(bytes);
+            }
+        }
+    }
 }

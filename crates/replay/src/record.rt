@@ -1,7 +1,11 @@
-// The unit record of 268 bytes.
-use crate::bytes;
+// The unit record. Functions, and no From or TryFrom, which would want types of their own here for the record and for its head.
+use crate::reading::{Broken, Rest};
 use unit::{Phase, Place, Registers, Settings, Unit};
 
+// How many bytes it has.
+pub(crate) const SIZE: usize = 268;
+
+// The tags, numbers as the format has them: the kinds are unit's Phase and Place, and an enum of tags between would take a match more each way.
 const ASLEEP: u8 = 0x00;
 
 const COMMAND: u8 = 0x01;
@@ -18,125 +22,80 @@ const ERASE_ALL: u8 = 0xA7;
 
 const ID_CHECK: u8 = 0xF5;
 
-// Where the 259 collected bytes begin.
-const COLLECTED: usize = 9;
-
-// A record that a unit has. No other occurs: an unknown tag, a count that the tag cannot have and a blank over 1 make a case that is not well formed.
-pub(crate) fn is_unit(r: &[u8]) -> bool {
-    let count = bytes::pair(r, 1);
-    if 1 < bytes::at(r, 5) {
-        return false;
-    }
-    match bytes::at(r, 0) {
-        ASLEEP => count < 256,
-        COMMAND => count == 0,
-        PAGE_READ | PAGE_PROGRAM | UNIT_PROGRAM | BLOCK_ERASE | ERASE_ALL | ID_CHECK => true,
-        _ => false,
-    }
-}
-
-fn phase(tag: u8, count: usize) -> Phase {
-    match tag {
-        ASLEEP => Phase::Asleep(bytes::low(count)),
-        PAGE_READ => Phase::Awake(Place::PageRead(count)),
-        PAGE_PROGRAM => Phase::Awake(Place::PageProgram(count)),
-        UNIT_PROGRAM => Phase::Awake(Place::UnitProgram(count)),
-        BLOCK_ERASE => Phase::Awake(Place::BlockErase(count)),
-        ERASE_ALL => Phase::Awake(Place::EraseAll(count)),
-        ID_CHECK => Phase::Awake(Place::IdCheck(count)),
-        _ => Phase::Awake(Place::Command),
-    }
-}
-
-// The unit of a record.
-pub(crate) fn read(r: &[u8]) -> Unit {
-    let phase = phase(bytes::at(r, 0), bytes::pair(r, 1));
-    let registers = Registers {
-        srd: bytes::at(r, 3),
-        srd1: bytes::at(r, 4),
-        rate: bytes::at(r, 7),
-        mismatches: bytes::at(r, 8),
+// The phase that a tag and the count after it say. No unit has another: an unknown tag, or a count that the tag cannot have, makes a case that is not well formed.
+fn phase(tag: u8, count: u16) -> Result<Phase, Broken> {
+    let n = usize::from(count);
+    let place = match tag {
+        ASLEEP => {
+            let zeros = u8::try_from(count).map_err(|_| Broken)?;
+            return Ok(Phase::Asleep(zeros));
+        }
+        COMMAND if count == 0 => Place::Command,
+        PAGE_READ => Place::PageRead(n),
+        PAGE_PROGRAM => Place::PageProgram(n),
+        UNIT_PROGRAM => Place::UnitProgram(n),
+        BLOCK_ERASE => Place::BlockErase(n),
+        ERASE_ALL => Place::EraseAll(n),
+        ID_CHECK => Place::IdCheck(n),
+        _ => return Err(Broken),
     };
-    let settings = Settings {
-        blank: bytes::at(r, 5) == 1,
-        protection: bytes::at(r, 6),
-    };
-    let mut collected = [0u8; 259];
-    slices::copy(&mut collected, bytes::rest(r, COLLECTED));
-    Unit {
-        phase: phase,
-        registers: registers,
-        settings: settings,
-        collected: collected,
-    }
+    Ok(Phase::Awake(place))
 }
 
-// A tag, and the count after it.
-#[derive(Drop)]
-struct Stand {
-    tag: u8,
-    count: usize,
-}
-
-fn inside(place: Place) -> Stand {
-    match place {
-        Place::Command => Stand {
-            tag: COMMAND,
-            count: 0,
-        },
-        Place::PageRead(n) => Stand {
-            tag: PAGE_READ,
-            count: n,
-        },
-        Place::PageProgram(n) => Stand {
-            tag: PAGE_PROGRAM,
-            count: n,
-        },
-        Place::UnitProgram(n) => Stand {
-            tag: UNIT_PROGRAM,
-            count: n,
-        },
-        Place::BlockErase(n) => Stand {
-            tag: BLOCK_ERASE,
-            count: n,
-        },
-        Place::EraseAll(n) => Stand {
-            tag: ERASE_ALL,
-            count: n,
-        },
-        Place::IdCheck(n) => Stand {
-            tag: ID_CHECK,
-            count: n,
-        },
-    }
-}
-
-fn standing(phase: Phase) -> Stand {
+// The tag and the count of a phase, as `timed` has them too.
+fn tag_and_count(phase: Phase) -> (u8, usize) {
     match phase {
-        Phase::Asleep(n) => Stand {
-            tag: ASLEEP,
-            count: n as usize,
-        },
-        Phase::Awake(place) => inside(place),
+        Phase::Asleep(zeros) => (ASLEEP, zeros.into()),
+        Phase::Awake(Place::Command) => (COMMAND, 0),
+        Phase::Awake(Place::PageRead(n)) => (PAGE_READ, n),
+        Phase::Awake(Place::PageProgram(n)) => (PAGE_PROGRAM, n),
+        Phase::Awake(Place::UnitProgram(n)) => (UNIT_PROGRAM, n),
+        Phase::Awake(Place::BlockErase(n)) => (BLOCK_ERASE, n),
+        Phase::Awake(Place::EraseAll(n)) => (ERASE_ALL, n),
+        Phase::Awake(Place::IdCheck(n)) => (ID_CHECK, n),
     }
 }
 
-// The record of a unit.
-pub(crate) fn write(u: Unit) -> [u8; 268] {
-    let s = standing(u.phase);
-    let registers = u.registers;
-    let settings = u.settings;
-    let collected = u.collected;
-    let mut r = [0u8; 268];
-    r[0] = s.tag;
-    r[1] = bytes::low(s.count);
-    r[2] = bytes::high(s.count);
-    r[3] = registers.srd;
-    r[4] = registers.srd1;
-    r[5] = if settings.blank { 1 } else { 0 };
-    r[6] = settings.protection;
-    r[7] = registers.rate;
-    r[8] = registers.mismatches;
-    slices::copy(&mut r[COLLECTED..], &collected);
-    r
+// The unit of a record, which is taken from a case.
+pub(crate) fn read(rest: &mut Rest<'_>) -> Result<Unit, Broken> {
+    let tag = rest.byte()?;
+    let count = rest.number()?;
+    let phase = phase(tag, count)?;
+    let srd = rest.byte()?;
+    let srd1 = rest.byte()?;
+    let blank = rest.flag()?;
+    let protection = rest.byte()?;
+    let rate = rest.byte()?;
+    let mismatches = rest.byte()?;
+    let collected = rest.array()?;
+    Ok(Unit {
+        phase,
+        registers: Registers {
+            srd,
+            srd1,
+            rate,
+            mismatches,
+        },
+        settings: Settings { blank, protection },
+        collected,
+    })
+}
+
+// What a unit's record has before the collected bytes.
+pub(crate) fn head(unit: &Unit) -> [u8; 9] {
+    let (tag, count) = tag_and_count(unit.phase);
+    let [low, high, ..] = count.to_le_bytes();
+    let registers = unit.registers;
+    let settings = unit.settings;
+    [
+        tag,
+        low,
+        high,
+        registers.srd,
+        registers.srd1,
+        settings.blank.into(),
+        settings.protection,
+        registers.rate,
+        registers.mismatches,
+    ]
 }

@@ -10,36 +10,27 @@ use std::io;
 use std::io::Read;
 use std::rt::Env;
 
-// Reads until `buf` is full, the input ends or a read fails, and says how many bytes stand at the front.
+// Reads until `buf` is full, the input ends or a read fails, and says how many bytes stand at the front: its clauses speak of the whole buffer. No range: a read says how far it went.
 pub fn fill<R: Read>(input: &mut R, buf: &mut [u8]) -> usize
     ensures within { result ≤ length buf.new }
     ensures front { result ≡ length (take result buf.new) }
     ensures taken { Consumes (R.remaining input.old) (R.remaining input.new) (take result buf.new) }
 {
-    let most = buf.len();
     let mut done = 0;
-    for _ in 0..most {
-        if done == most {
-            return done;
-        }
+    while done < buf.len() {
         match input.read(&mut buf[done..]) {
-            Ok(0) => return done,
+            Ok(0) | Err(_) => break,
             Ok(n) => done += n,
-            Err(_) => return done,
         }
     }
     done
 }
 
-// How many words the program was started with, its own name among them.
+// How many words the program was started with, its own name among them. Not by `std::env::args`, which takes memory, and no word that is not UTF-8.
 pub fn word_count(rt: &impl Env) -> usize {
-    let mut none = [0u8; 0];
-    for i in 0..usize::MAX {
-        if let Err(FillError::NotPresent) = rt.arg(i, &mut none) {
-            return i;
-        }
-    }
-    usize::MAX
+    (0..usize::MAX)
+        .find(|&i| matches!(rt.arg(i, &mut []), Err(FillError::NotPresent)))
+        .unwrap_or(usize::MAX)
 }
 
 // A line on standard error: what failed, and the system's reason.

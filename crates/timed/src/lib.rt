@@ -1,100 +1,81 @@
 // What the timing calls from Rust: the port's public run on an open unit at a command, and what it answered as bytes.
 #![tactic(auto)]
 
-use protocol::Answer;
+use protocol::{Answer, Refused};
 use unit::{Inputs, Phase, Place, Unit};
 
 // An open unit, awake at a command: the fresh one of a blank image, woken.
 fn ready(image: &[u8]) -> Unit {
-    let u = Unit::fresh(image, Inputs { protection: 0 });
-    let s = u.state();
-    let settings = u.settings;
-    let collected = u.collected;
-    Unit::of(s.at(Phase::Awake(Place::Command)), settings, collected)
+    let fresh = Unit::fresh(image, Inputs { protection: 0 });
+    Unit {
+        phase: Phase::Awake(Place::Command),
+        ..fresh
+    }
 }
 
-// The phase as the case format has it: a tag, and a count.
-fn tag(phase: Phase) -> u8 {
+// The phase as the case format has it: a tag, and a count. `replay` has the same table for its records: a crate for its eight lines would be no plainer, and the format is nothing of the unit's.
+fn tag_and_count(phase: Phase) -> (u8, usize) {
     match phase {
-        Phase::Asleep(_) => 0x00,
-        Phase::Awake(place) => match place {
-            Place::Command => 0x01,
-            Place::PageRead(_) => 0xFF,
-            Place::PageProgram(_) => 0x41,
-            Place::UnitProgram(_) => 0x49,
-            Place::BlockErase(_) => 0x20,
-            Place::EraseAll(_) => 0xA7,
-            Place::IdCheck(_) => 0xF5,
-        },
+        Phase::Asleep(n) => (0x00, usize::from(n)),
+        Phase::Awake(Place::Command) => (0x01, 0),
+        Phase::Awake(Place::PageRead(n)) => (0xFF, n),
+        Phase::Awake(Place::PageProgram(n)) => (0x41, n),
+        Phase::Awake(Place::UnitProgram(n)) => (0x49, n),
+        Phase::Awake(Place::BlockErase(n)) => (0x20, n),
+        Phase::Awake(Place::EraseAll(n)) => (0xA7, n),
+        Phase::Awake(Place::IdCheck(n)) => (0xF5, n),
     }
 }
 
-fn count(phase: Phase) -> usize {
-    match phase {
-        Phase::Asleep(n) => n as usize,
-        Phase::Awake(place) => match place {
-            Place::Command => 0,
-            Place::PageRead(n) => n,
-            Place::PageProgram(n) => n,
-            Place::UnitProgram(n) => n,
-            Place::BlockErase(n) => n,
-            Place::EraseAll(n) => n,
-            Place::IdCheck(n) => n,
-        },
-    }
+// What a run has led to, refused or not: the refusal's number or 0, the unit, the bytes taken and the reply's length.
+#[derive(Clone, Copy)]
+struct Outcome {
+    refusal: u8,
+    unit: Unit,
+    taken: usize,
+    reply_len: usize,
 }
 
-// Tag and count, SRD, SRD1, blank, protection, rate, the bytes taken, the reply's length, the refusal, the wrong ID checks.
-fn head(a: Answer) -> [u8; 32] {
-    let u = a.unit;
-    let phase = u.phase;
-    let registers = u.registers;
-    let settings = u.settings;
-    let n = count(phase);
-    let taken = a.taken;
-    let len = a.reply_len;
-    let mut h = [0u8; 32];
-    h[0] = tag(phase);
-    h[1] = (n % 256) as u8;
-    h[2] = (n / 256 % 256) as u8;
-    h[3] = registers.srd;
-    h[4] = registers.srd1;
-    h[5] = if settings.blank { 1 } else { 0 };
-    h[6] = settings.protection;
-    h[7] = registers.rate;
-    h[8] = (taken % 256) as u8;
-    h[9] = (taken / 256 % 256) as u8;
-    h[10] = (taken / 65536 % 256) as u8;
-    h[11] = (taken / 16777216 % 256) as u8;
-    h[12] = (len % 256) as u8;
-    h[13] = (len / 256 % 256) as u8;
-    h[14] = (len / 65536 % 256) as u8;
-    h[15] = (len / 16777216 % 256) as u8;
-    h[16] = a.refusal;
-    h[17] = registers.mismatches;
-    h
-}
-
-// As much of src as fits into out, from a place on.
-fn lay(out: &mut [u8], at: usize, src: &[u8]) {
-    if out.len() <= at {
-        return;
-    }
-    let room = out.len() - at;
-    let mut i = 0;
-    while i < src.len() {
-        if i < room {
-            out[at + i] = src[i];
+impl Outcome {
+    // By document 01's numbers, since the timing reads no type of ours.
+    fn of(answered: Result<Answer, Refused>) -> Outcome {
+        match answered {
+            Ok(answer) => Outcome {
+                refusal: 0,
+                unit: answer.unit,
+                taken: answer.taken,
+                reply_len: answer.reply_len,
+            },
+            Err(refused) => Outcome {
+                refusal: refused.refusal.number(),
+                unit: refused.unit,
+                taken: 0,
+                reply_len: 0,
+            },
         }
-        i += 1;
+    }
+
+    // Tag and count, SRD, SRD1, blank, protection, rate, the bytes taken, the reply's length, the refusal, the wrong ID checks, at the places where the timing reads them.
+    fn head(&self) -> [u8; 32] {
+        let registers = self.unit.registers;
+        let (tag, count) = tag_and_count(self.unit.phase);
+        let mut h = [0; 32];
+        h[0] = tag;
+        h[1..3].copy_from_slice(&count.to_le_bytes()[..2]);
+        h[3] = registers.srd;
+        h[4] = registers.srd1;
+        h[5] = u8::from(self.unit.settings.blank);
+        h[6] = self.unit.settings.protection;
+        h[7] = registers.rate;
+        h[8..12].copy_from_slice(&self.taken.to_le_bytes()[..4]);
+        h[12..16].copy_from_slice(&self.reply_len.to_le_bytes()[..4]);
+        h[16] = self.refusal;
+        h[17] = registers.mismatches;
+        h
     }
 }
 
-fn lay_both(out: &mut [u8], front: &[u8; 32], collected: &[u8; 259]) {
-    lay(out, 0, front);
-    lay(out, 32, collected);
-}
-
+// Lays as much into `out` as fits: 32 bytes of what was answered, and then the collected bytes.
 #[unsafe(no_mangle)]
 pub extern "C" fn pikecowl_timed_run(
     image: &mut [u8],
@@ -102,11 +83,10 @@ pub extern "C" fn pikecowl_timed_run(
     reply: &mut [u8],
     out: &mut [u8],
 ) -> usize {
-    let u = ready(image);
-    let a = port::run(u, image, bytes, reply);
-    let unit = a.unit;
-    let collected = unit.collected;
-    let front = head(a);
-    lay_both(out, &front, &collected);
-    a.taken
+    let unit = ready(image);
+    let outcome = Outcome::of(port::run(unit, image, bytes, reply));
+    let (front, rest) = out.split_at_mut(out.len().min(32));
+    slices::copy(front, &outcome.head());
+    slices::copy(rest, &outcome.unit.collected);
+    outcome.taken
 }

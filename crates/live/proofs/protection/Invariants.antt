@@ -1,10 +1,7 @@
--- `live::protection` meets its contract: what the rest of the text says after the digits so far is what the whole says, and the number is at most 256.
-use Rattle.std.proofs.Common.{◌≡◌, ◌≤◌, ◌-◌, length, drop}
+-- What the rest of the text says after the digits so far is what the whole says.
+use Rattle.std.proofs.Common.{◌≡◌, drop}
 use Rattle.live.specs.Argument.{given_from, given}
 use Rattle.live.proofs.protection.Given as goal
 
-abbrev pub invariant-loop-i : goal.invariant-loop-i
-invariant-loop-i l = (l.i ≤ length l.text) × (given_from l.n (drop l.i l.text) ≡ given l.text)
-
-abbrev pub decreases-loop-i : goal.decreases-loop-i
-decreases-loop-i l = length l.text - l.i
+abbrev pub invariant-loop-b : goal.invariant-loop-b
+invariant-loop-b l = given_from l.n (drop l.b-index l.text) ≡ given l.text

@@ -16,6 +16,6 @@ front_grown : (a k n : ℕ) (xs ys : List ℕ) → a ≤ length xs → n ≤ len
 front_grown a k n xs ys within fits =
     ap (λ l. take a xs ++ l) (sym (take-append-le n ys (post_of a k xs) fits)) ∙ sym (take-append-add (take a xs) (ys ++ post_of a k xs) n) ∙ ap (λ m. take (m + n) (put_mid a k xs ys)) (length-take-le a xs within)
 
-pub loop-preserved : goal.loop-preserved
-loop-preserved g c =
-    (search rules, subst (Consumes _ _) (front_grown c.loop.done _ c.in-Ok.n c.loop.buf c.read.new.buf (search rules) c.in-Ok.ensures.bound.0) (taken_both _ _ _ _ _ c.loop.invariant.1 c.in-Ok.ensures.bytes.0))
+pub loop-done-preserved : goal.loop-done-preserved
+loop-done-preserved g c =
+    (search rules, subst (Consumes _ _) (front_grown c.loop-done.done _ c.in-Ok.n c.loop-done.buf c.read.new.buf (search rules) c.in-Ok.ensures.bound.0) (taken_both _ _ _ _ _ c.loop-done.invariant.1 c.in-Ok.ensures.bytes.0))
