@@ -9,9 +9,10 @@ use lib.ListN.{length, take, drop}
 use lib.Seq.{length-take-le, take-take}
 use Rattle.unit.specs.declared.Unit.{Unit as Port}
 use Rattle.unit.specs.declared.Inputs.{Inputs}
+use Rattle.protocol.specs.declared.Started.{Started}
 use Rattle.protocol.specs.Outcome.{Outcome}
 use Rattle.protocol.specs.Step.{step, run}
-use Rattle.protocol.specs.Calls.{Started, Left, answered}
+use Rattle.protocol.specs.Calls.{Left, answered}
 use Rattle.protocol.proofs.Runs.{Stopped}
 use Rattle.demands.specs.Histories.{Call, brings, area_of, Entry, Calls, History, Fit, taken}
 use Rattle.demands.specs.Refusals.{HandsBack}

@@ -14,8 +14,9 @@ use Rattle.unit.specs.declared.Settings.{Settings}
 use Rattle.unit.specs.Model.{fresh}
 use Rattle.unit.proofs.Ranged.{Sound, sound, in_range_lem}
 use Rattle.unit.proofs.Builders.{sound_fresh, fresh_protection}
+use Rattle.protocol.specs.declared.Started.{Started}
 use Rattle.protocol.specs.Step.{run}
-use Rattle.protocol.specs.Calls.{Started, Left}
+use Rattle.protocol.specs.Calls.{Left}
 use Rattle.protocol.proofs.Reasons.StartReason.{fine}
 use Rattle.protocol.proofs.Sound.{sound_run, size_run, settings_run}
 use Rattle.protocol.proofs.Refusals.{start_exactly, start_done}

@@ -11,7 +11,8 @@ use lib.ListN.{length}
 use Rattle.unit.specs.declared.Unit.{Unit as Port}
 use Rattle.unit.specs.declared.Inputs.{Inputs}
 use Rattle.unit.specs.Range.{in_range}
-use Rattle.protocol.specs.Calls.{Started, start_refusal, refusal, Left, refused, StartEnsures, ByteEnsures, RunEnsures}
+use Rattle.protocol.specs.declared.Started.{Started}
+use Rattle.protocol.specs.Calls.{start_refusal, refusal, Left, refused, StartEnsures, ByteEnsures, RunEnsures}
 use Rattle.protocol.proofs.Reasons.{StartReason, Reason}
 use Rattle.protocol.proofs.Reasons.StartReason.{fine as start_fine, image as start_image, protection}
 use Rattle.protocol.proofs.Reasons.Reason.{fine, image, room, range}

@@ -18,7 +18,9 @@ use Rattle.unit.specs.Clauses.{FreshEnsures, IdleEnsures, OfEnsures, StateEnsure
 use Rattle.protocol.specs.declared.Answer.{Answer}
 use Rattle.protocol.specs.declared.Refused.{Refused}
 use Rattle.protocol.specs.declared.Refusal.{Refusal}
-use Rattle.protocol.specs.Calls.{Started, Left, left, number_of, started, numbered, StartEnsures, ByteEnsures, RunEnsures}
+use Rattle.protocol.specs.declared.Started.{Started}
+use Rattle.protocol.specs.declared.Numbered.{Numbered}
+use Rattle.protocol.specs.Calls.{Left, left, number_of, started, numbered, StartEnsures, ByteEnsures, RunEnsures}
 use Rattle.protocol.proofs.Numbers.{started_alone, numbered_alone}
 
 -- no second outcome satisfies P
@@ -112,6 +114,12 @@ port_run_pinned u image area bytes = pinned _
 
 pub protocol_refusal_number_pinned : (refusal : Refusal) → Pins (λ (n : ℕ). n ≡ number_of refusal)
 protocol_refusal_number_pinned refusal = pinned _
+
+pub protocol_started_of_pinned : (answered : Result Port Refused) → Pins (λ (r : Started). r ≡ started answered)
+protocol_started_of_pinned answered = pinned _
+
+pub protocol_numbered_of_pinned : (answered : Result Answer Refused) → Pins (λ (r : Numbered). r ≡ numbered answered)
+protocol_numbered_of_pinned answered = pinned _
 
 -- and their results, which their numbers and values tell: start's, and those of byte and run with the image and the reply area together
 pub port_start_result_pinned : (image : List ℕ) (inputs : Inputs) → Pins (λ (r : Result Port Refused). StartEnsures image inputs (started r))

@@ -9,7 +9,8 @@ use Rattle.unit.specs.declared.Inputs.{Inputs}
 use Rattle.unit.specs.declared.Phase.TheVariants.{Awake}
 use Rattle.unit.specs.declared.Place.{Place}
 use Rattle.unit.specs.declared.Place.TheVariants.{Command}
-use Rattle.protocol.specs.Calls.{Started, Left, StartEnsures}
+use Rattle.protocol.specs.declared.Started.{Started}
+use Rattle.protocol.specs.Calls.{Left, StartEnsures}
 use Rattle.demands.specs.Flash.{InBlock, Protected, ids, Blank}
 use Rattle.demands.specs.Histories.{Call, brings, area_of, Answers, Entry, Calls, History, Fit, unit_after, image_after, taken, At, bytes_to}
 use Rattle.demands.specs.Refusals.{StartExact, Exact}

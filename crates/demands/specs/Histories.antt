@@ -5,7 +5,8 @@ use Rattle.packets.specs.Pieces.{Each}
 use Rattle.packets.specs.Readings.{Bytes}
 use Rattle.unit.specs.declared.Unit.{Unit as Port}
 use Rattle.unit.specs.declared.Inputs.{Inputs}
-use Rattle.protocol.specs.Calls.{Started, Left, StartEnsures, ByteEnsures, RunEnsures}
+use Rattle.protocol.specs.declared.Started.{Started}
+use Rattle.protocol.specs.Calls.{Left, StartEnsures, ByteEnsures, RunEnsures}
 use Rattle.demands.specs.Record.{InRange}
 
 -- a call, with its reply area as it is lent

@@ -3,7 +3,8 @@
 use Rattle.std.specs.Prelude.{ℕ, ◌≤◌, ◌<◌, ◌≡◌, ◌≢◌, ◌⊎◌, ◌↔◌, List, length}
 use Rattle.unit.specs.declared.Unit.{Unit as Port}
 use Rattle.unit.specs.declared.Inputs.{Inputs}
-use Rattle.protocol.specs.Calls.{Started, Left}
+use Rattle.protocol.specs.declared.Started.{Started}
+use Rattle.protocol.specs.Calls.{Left}
 use Rattle.demands.specs.Record.{InRange, Idle, Fresh}
 use Rattle.demands.specs.Flash.{Blank}
 

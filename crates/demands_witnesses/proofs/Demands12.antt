@@ -16,10 +16,11 @@ use Rattle.unit.specs.declared.Unit.{Unit as Port}
 use Rattle.unit.specs.Phases.{command_of, need}
 use Rattle.unit.specs.Model.{begun, fresh, inputs, idle, with_srd, phased, longer, ended, is_open, standing}
 use Rattle.unit.specs.Range.{packet_fits, position_fits, srd_fits, srd1_fits, registers_fit, blank_fits, settings_fit, in_range}
+use Rattle.protocol.specs.declared.Started.{Started}
 use Rattle.protocol.specs.Commands.{commands, meaning, needs_open, effect, dropped, commanded}
 use Rattle.protocol.specs.Endings.{bank_end, programmed_by, programs, right_id, is_right, judged, counted, after_check, finished}
 use Rattle.protocol.specs.Step.{wakes, asleep, body, completes, in_packet, step_at, step}
-use Rattle.protocol.specs.Calls.{Started, start_refusal, start_call, refusal, Left, byte_call, run_call}
+use Rattle.protocol.specs.Calls.{start_refusal, start_call, refusal, Left, byte_call, run_call}
 use Rattle.protocol.specs.Sessions.{image}
 use Rattle.demands.specs.Flash.{Protected}
 use Rattle.demands.specs.Flash.InBlock.{block_0}

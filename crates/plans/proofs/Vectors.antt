@@ -7,7 +7,7 @@ use mathlib.Core.List.{List, [], ◌∷◌, map}
 use lib.Ieee.{nan, inf, binary64, div, sub, lt, le, of_int, of_bits}
 use Rattle.rates.specs.declared.Clock.{Clock}
 use Rattle.rates.specs.declared.Clock.TheVariants.{Fixed8, Fixed7, External}
-use Rattle.rates.specs.Planned.{Planned}
+use Rattle.rates.specs.declared.Planned.{Planned}
 use Rattle.rates.specs.Clocks.{float, hertz, in_range, is_taken}
 use Rattle.rates.specs.Rates.{is_listed, reached_at, apart, plan_at}
 use Rattle.rates.specs.Plans.{answer_with, planned}

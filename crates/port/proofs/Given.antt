@@ -8,7 +8,8 @@ use Rattle.unit.specs.declared.Unit.{Unit as Port}
 use Rattle.unit.proofs.Ranged.{Sound, sound}
 use Rattle.std.specs.Prelude.{Err}
 use Rattle.protocol.specs.declared.Refused.{Refused}
-use Rattle.protocol.specs.Calls.{Numbered, left, number_of, refusal, refusing, numbered, run_call}
+use Rattle.protocol.specs.declared.Numbered.{Numbered}
+use Rattle.protocol.specs.Calls.{left, number_of, refusal, refusing, numbered, run_call}
 use Rattle.protocol.proofs.Numbers.{not_none}
 use Rattle.protocol.proofs.Refusals.{not_refused, run_refused}
 use Rattle.port.specs.Parts.{Fine}

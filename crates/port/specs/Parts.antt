@@ -6,7 +6,8 @@ use Rattle.unit.specs.Phases.{Kind, need}
 use Rattle.unit.specs.Phases.Kind.{page_read, page_program, unit_program, block_erase, all_erase, id_check}
 use Rattle.unit.specs.Range.{in_range}
 use Rattle.protocol.specs.declared.Refused.{Refused}
-use Rattle.protocol.specs.Calls.{Numbered, Left, left, Walk, answered, number_of, refusing}
+use Rattle.protocol.specs.declared.Numbered.{Numbered}
+use Rattle.protocol.specs.Calls.{Left, left, Walk, answered, number_of, refusing}
 use Rattle.port.specs.declared.packets.Packet.{Packet}
 use Rattle.port.specs.declared.packets.Packet.TheVariants.{PageRead, PageProgram, UnitProgram, BlockErase, EraseAll, IdCheck}
 

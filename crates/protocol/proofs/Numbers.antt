@@ -10,7 +10,9 @@ use Rattle.protocol.specs.declared.Answer.{Answer}
 use Rattle.protocol.specs.declared.Refused.{Refused}
 use Rattle.protocol.specs.declared.Refusal.{Refusal}
 use Rattle.protocol.specs.declared.Refusal.TheVariants.{Image, Protection, Area, Unit}
-use Rattle.protocol.specs.Calls.{Started, Numbered, number_of, started, numbered}
+use Rattle.protocol.specs.declared.Started.{Started}
+use Rattle.protocol.specs.declared.Numbered.{Numbered}
+use Rattle.protocol.specs.Calls.{number_of, started, numbered}
 
 -- the refusal of a number
 refusal_with : ℕ → Refusal

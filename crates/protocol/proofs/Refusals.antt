@@ -15,7 +15,8 @@ use Rattle.unit.specs.declared.Inputs.{Inputs}
 use Rattle.unit.specs.Model.{fresh, idle}
 use Rattle.unit.specs.Range.{in_range}
 use Rattle.protocol.specs.Step.{step}
-use Rattle.protocol.specs.Calls.{Started, start_refusal, start_call, refusal, Left, refused, answered, byte_call, walked, run_call}
+use Rattle.protocol.specs.declared.Started.{Started}
+use Rattle.protocol.specs.Calls.{start_refusal, start_call, refusal, Left, refused, answered, byte_call, walked, run_call}
 use Rattle.protocol.proofs.Reasons.{StartReason, Reason}
 use Rattle.protocol.proofs.Reasons.StartReason.{fine as start_fine, image as start_image, protection}
 use Rattle.protocol.proofs.Reasons.Reason.{fine, image, room, range}

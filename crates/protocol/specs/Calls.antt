@@ -9,20 +9,10 @@ use Rattle.protocol.specs.declared.Refusal.{Refusal}
 use Rattle.protocol.specs.declared.Refusal.TheVariants.{Image, Protection, Area, Unit}
 use Rattle.protocol.specs.declared.Refused.{Refused}
 use Rattle.protocol.specs.declared.Answer.{Answer}
+use Rattle.protocol.specs.declared.Started.{Started}
+use Rattle.protocol.specs.declared.Numbered.{Numbered}
 use Rattle.protocol.specs.Outcome.{Outcome}
 use Rattle.protocol.specs.Step.{step}
-
--- what a start answers, by its number: the refusal's, or 0, and the unit
-pub record Started : Type 0 where
-  pub refusal : ℕ
-  pub unit : Port
-
--- what a byte or a run answers, by its number: the refusal's, or 0, the next unit, the bytes taken and the reply's length
-pub record Numbered : Type 0 where
-  pub refusal : ℕ
-  pub unit : Port
-  pub taken : ℕ
-  pub reply_len : ℕ
 
 -- the number of a start's refusal, or 0: the lowest that applies
 unfoldable pub start_refusal : List ℕ → Inputs → ℕ

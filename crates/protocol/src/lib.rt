@@ -2,7 +2,7 @@
 #![tactic(auto)]
 
 ghost use Rattle.std.specs.Prelude.{◌≡◌};
-ghost use Rattle.protocol.specs.Calls.{number_of};
+ghost use Rattle.protocol.specs.Calls.{number_of, started, numbered};
 
 use unit::Unit;
 
@@ -41,4 +41,53 @@ pub struct Answer {
     pub unit: Unit,
     pub taken: usize,
     pub reply_len: usize,
+}
+
+// What a start answers, in document 01's numbers: the refusal's, or 0, and the unit.
+#[derive(Clone, Copy)]
+pub struct Started {
+    pub refusal: u8,
+    pub unit: Unit,
+}
+
+impl Started {
+    pub fn of(answered: Result<Unit, Refused>) -> Started
+        ensures { result ≡ started answered }
+    {
+        let (refusal, unit) = match answered {
+            Ok(unit) => (0, unit),
+            Err(refused) => (refused.refusal.number(), refused.unit),
+        };
+        Started { refusal, unit }
+    }
+}
+
+// And what a byte or a run answers: the refusal's number, or 0, the next unit, the bytes taken and the reply's length. A refused call takes nothing and replies nothing.
+#[derive(Clone, Copy)]
+pub struct Numbered {
+    pub refusal: u8,
+    pub unit: Unit,
+    pub taken: usize,
+    pub reply_len: usize,
+}
+
+impl Numbered {
+    pub fn of(answered: Result<Answer, Refused>) -> Numbered
+        ensures { result ≡ numbered answered }
+    {
+        match answered {
+            Ok(answer) => Numbered {
+                refusal: 0,
+                unit: answer.unit,
+                taken: answer.taken,
+                reply_len: answer.reply_len,
+            },
+            Err(refused) => Numbered {
+                refusal: refused.refusal.number(),
+                unit: refused.unit,
+                taken: 0,
+                reply_len: 0,
+            },
+        }
+    }
 }

@@ -13,7 +13,7 @@ use Rattle.std.proofs.lemmas.Float.{T_from_true}
 use Rattle.rates.specs.declared.Clock.{Clock}
 use Rattle.rates.specs.declared.Clock.TheVariants.{Fixed8, Fixed7, External}
 use Rattle.rates.specs.declared.Plan.{Plan}
-use Rattle.rates.specs.Planned.{Planned}
+use Rattle.rates.specs.declared.Planned.{Planned}
 use Rattle.rates.specs.Clocks.{float, hertz, in_range, is_taken}
 use Rattle.rates.specs.Rates.{is_listed, plan_at, farness}
 use Rattle.rates.specs.Plans.{best_divider, plus_zero, made_plan, refused_with, answer_with, planned}

@@ -11,7 +11,7 @@ use Rattle.std.specs.Float.{NotNan}
 use Rattle.std.proofs.lemmas.Float.{le_left, T_from_true}
 use Rattle.rates.specs.declared.Clock.{Clock}
 use Rattle.rates.specs.declared.Plan.{Plan}
-use Rattle.rates.specs.Planned.{Planned}
+use Rattle.rates.specs.declared.Planned.{Planned}
 use Rattle.rates.specs.Clocks.{float, hertz}
 use Rattle.rates.specs.Rates.{reached_at, apart, plan_at, farness}
 use Rattle.rates.specs.Plans.{plus_zero, planned}

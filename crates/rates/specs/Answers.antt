@@ -4,7 +4,7 @@ use Rattle.std.specs.Float.{fin}
 use Rattle.std.specs.Float.Ieee.{le}
 use Rattle.rates.specs.declared.Clock.{Clock}
 use Rattle.rates.specs.declared.Clock.TheVariants.{Fixed8, Fixed7, External}
-use Rattle.rates.specs.Planned.{Planned}
+use Rattle.rates.specs.declared.Planned.{Planned}
 use Rattle.rates.specs.Clocks.{float, hertz}
 use Rattle.rates.specs.Nearest.{Nearest}
 

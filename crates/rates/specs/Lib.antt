@@ -1,6 +1,5 @@
 pub mod Clocks
 pub mod Rates
-pub mod Planned
 pub mod Plans
 pub mod Nearest
 pub mod Answers

@@ -7,7 +7,7 @@ use Rattle.rates.specs.declared.Clock.{Clock}
 use Rattle.rates.specs.declared.Plan.{Plan}
 use Rattle.rates.specs.declared.Refusal.{Refusal}
 use Rattle.rates.specs.declared.Refusal.TheVariants as refusal
-use Rattle.rates.specs.Planned.{Planned}
+use Rattle.rates.specs.declared.Planned.{Planned}
 use Rattle.rates.specs.Clocks.{hertz, is_taken}
 use Rattle.rates.specs.Rates.{is_listed, plan_at, farness}
 

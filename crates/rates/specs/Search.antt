@@ -4,7 +4,7 @@ use Rattle.std.specs.Prelude.{cond, ℕ, zero, suc, Float}
 use Rattle.std.specs.Float.Ieee.{lt}
 use Rattle.rates.specs.declared.Clock.{Clock}
 use Rattle.rates.specs.declared.Plan.{Plan}
-use Rattle.rates.specs.Planned.{Planned}
+use Rattle.rates.specs.declared.Planned.{Planned}
 use Rattle.rates.specs.Clocks.{hertz}
 use Rattle.rates.specs.Rates.{plan_at}
 use Rattle.rates.specs.Plans.{max_divider, answer_with}

@@ -39,6 +39,31 @@ impl Refusal {
     }
 }
 
+// What is answered, in document 02's numbers: 0 and the plan, or a refusal's number with a plan of zeros.
+#[derive(Clone, Copy)]
+pub struct Planned {
+    pub refusal: u8,
+    pub plan: Plan,
+}
+
+impl Planned {
+    pub fn of(answered: Result<Plan, Refusal>) -> Planned
+        ensures { result ≡ numbered answered }
+    {
+        match answered {
+            Ok(plan) => Planned { refusal: 0, plan },
+            Err(refusal) => Planned {
+                refusal: refusal.number(),
+                plan: Plan {
+                    reached: 0.0,
+                    distance: 0.0,
+                    divider: 0,
+                },
+            },
+        }
+    }
+}
+
 // The rates that may be wanted.
 pub const RATES: [u32; 5] = [9600, 19200, 38400, 57600, 115200];
 

@@ -5,7 +5,7 @@ ghost use Rattle.std.specs.Prelude.{◌≡◌, ◌≤◌, length};
 ghost use Rattle.std.specs.Float.{binary64};
 ghost use Rattle.std.specs.Float.Ieee.{of_bits};
 
-use rates::Clock;
+use rates::{Clock, Planned};
 use std::fmt;
 use std::io::Read;
 
@@ -57,17 +57,15 @@ fn question(record: [u8; RECORD]) -> Option<(Clock, u32)> {
     Some((clock, u32::from_le_bytes(rate)))
 }
 
-// What is planned. A refused plan is zeros behind its number.
+// What is planned, in numbers, as the format has it.
 fn answer(clock: Clock, rate: u32) -> [u8; ANSWER] {
+    let planned = Planned::of(rates::plan_for(clock, rate));
+    let plan = planned.plan;
     let mut answer = [0; ANSWER];
-    match rates::plan_for(clock, rate) {
-        Ok(plan) => {
-            answer[1] = plan.divider;
-            answer[2..10].copy_from_slice(&plan.reached.to_le_bytes());
-            answer[10..].copy_from_slice(&plan.distance.to_le_bytes());
-        }
-        Err(refusal) => answer[0] = refusal.number(),
-    }
+    answer[0] = planned.refusal;
+    answer[1] = plan.divider;
+    answer[2..10].copy_from_slice(&plan.reached.to_le_bytes());
+    answer[10..].copy_from_slice(&plan.distance.to_le_bytes());
     answer
 }
 

@@ -2,7 +2,7 @@
 use crate::cases::{Begin, Case, Group, Kind, Patch};
 use crate::out::Output;
 use crate::record;
-use protocol::{Answer, Refused};
+use protocol::{Answer, Numbered, Refused, Started};
 use unit::Unit;
 
 // The port while cases are played: the unit that the next call is given, whether the case is traced, and where answers go.
@@ -39,29 +39,23 @@ impl<'a, P: Print> Player<'a, P> {
         match begin {
             Begin::Given(unit) => self.unit = unit,
             Begin::Start(inputs) => {
-                let (refusal, unit) = match port::start(image, inputs) {
-                    Ok(unit) => (0, unit),
-                    Err(refused) => (refused.refusal.number(), refused.unit),
-                };
-                self.unit = unit;
-                self.output.put(&[refusal]);
+                let started = Started::of(port::start(image, inputs));
+                self.unit = started.unit;
+                self.output.put(&[started.refusal]);
                 self.put_unit();
             }
         }
     }
 
-    // What a call answered, with document 01's number, as the format has it and as `timed` lays it out; its area, and the image where the case is traced. A refused call takes nothing and replies nothing.
+    // What a call answered, in document 01's numbers, as the format has them; its area, and the image where the case is traced.
     fn tell(&mut self, answered: Result<Answer, Refused>, image: &[u8], area: &[u8]) {
-        let (refusal, unit, taken, reply_len) = match answered {
-            Ok(answer) => (0, answer.unit, answer.taken, answer.reply_len),
-            Err(refused) => (refused.refusal.number(), refused.unit, 0, 0),
-        };
-        self.unit = unit;
+        let numbered = Numbered::of(answered);
+        self.unit = numbered.unit;
         let registers = self.unit.registers;
-        let [taken, taken_high, ..] = taken.to_le_bytes();
-        let [len, len_high, ..] = reply_len.to_le_bytes();
+        let [taken, taken_high, ..] = numbered.taken.to_le_bytes();
+        let [len, len_high, ..] = numbered.reply_len.to_le_bytes();
         self.output.put(&[
-            refusal,
+            numbered.refusal,
             taken,
             taken_high,
             len,

@@ -1,7 +1,7 @@
 // What the timing calls from Rust: the port's public run on an open unit at a command, and what it answered as bytes.
 #![tactic(auto)]
 
-use protocol::{Answer, Refused};
+use protocol::Numbered;
 use unit::{Inputs, Phase, Place, Unit};
 
 // An open unit, awake at a command: the fresh one of a blank image, woken.
@@ -27,55 +27,26 @@ fn tag_and_count(phase: Phase) -> (u8, usize) {
     }
 }
 
-// What a run has led to, refused or not: the refusal's number or 0, the unit, the bytes taken and the reply's length.
-#[derive(Clone, Copy)]
-struct Outcome {
-    refusal: u8,
-    unit: Unit,
-    taken: usize,
-    reply_len: usize,
+// Tag and count, SRD, SRD1, blank, protection, rate, the bytes taken, the reply's length, the refusal, the wrong ID checks, at the places where the timing reads them.
+fn head(numbered: &Numbered) -> [u8; 32] {
+    let registers = numbered.unit.registers;
+    let (tag, count) = tag_and_count(numbered.unit.phase);
+    let mut h = [0; 32];
+    h[0] = tag;
+    h[1..3].copy_from_slice(&count.to_le_bytes()[..2]);
+    h[3] = registers.srd;
+    h[4] = registers.srd1;
+    h[5] = u8::from(numbered.unit.settings.blank);
+    h[6] = numbered.unit.settings.protection;
+    h[7] = registers.rate;
+    h[8..12].copy_from_slice(&numbered.taken.to_le_bytes()[..4]);
+    h[12..16].copy_from_slice(&numbered.reply_len.to_le_bytes()[..4]);
+    h[16] = numbered.refusal;
+    h[17] = registers.mismatches;
+    h
 }
 
-impl Outcome {
-    // By document 01's numbers, since the timing reads no type of ours.
-    fn of(answered: Result<Answer, Refused>) -> Outcome {
-        match answered {
-            Ok(answer) => Outcome {
-                refusal: 0,
-                unit: answer.unit,
-                taken: answer.taken,
-                reply_len: answer.reply_len,
-            },
-            Err(refused) => Outcome {
-                refusal: refused.refusal.number(),
-                unit: refused.unit,
-                taken: 0,
-                reply_len: 0,
-            },
-        }
-    }
-
-    // Tag and count, SRD, SRD1, blank, protection, rate, the bytes taken, the reply's length, the refusal, the wrong ID checks, at the places where the timing reads them.
-    fn head(&self) -> [u8; 32] {
-        let registers = self.unit.registers;
-        let (tag, count) = tag_and_count(self.unit.phase);
-        let mut h = [0; 32];
-        h[0] = tag;
-        h[1..3].copy_from_slice(&count.to_le_bytes()[..2]);
-        h[3] = registers.srd;
-        h[4] = registers.srd1;
-        h[5] = u8::from(self.unit.settings.blank);
-        h[6] = self.unit.settings.protection;
-        h[7] = registers.rate;
-        h[8..12].copy_from_slice(&self.taken.to_le_bytes()[..4]);
-        h[12..16].copy_from_slice(&self.reply_len.to_le_bytes()[..4]);
-        h[16] = self.refusal;
-        h[17] = registers.mismatches;
-        h
-    }
-}
-
-// Lays as much into `out` as fits: 32 bytes of what was answered, and then the collected bytes.
+// Lays as much into `out` as fits: 32 bytes of what was answered, in document 01's numbers, since the timing reads no type of ours, and then the collected bytes.
 #[unsafe(no_mangle)]
 pub extern "C" fn pikecowl_timed_run(
     image: &mut [u8],
@@ -84,9 +55,9 @@ pub extern "C" fn pikecowl_timed_run(
     out: &mut [u8],
 ) -> usize {
     let unit = ready(image);
-    let outcome = Outcome::of(port::run(unit, image, bytes, reply));
+    let numbered = Numbered::of(port::run(unit, image, bytes, reply));
     let (front, rest) = out.split_at_mut(out.len().min(32));
-    slices::copy(front, &outcome.head());
-    slices::copy(rest, &outcome.unit.collected);
-    outcome.taken
+    slices::copy(front, &head(&numbered));
+    slices::copy(rest, &numbered.unit.collected);
+    numbered.taken
 }

@@ -5,7 +5,7 @@ use mir.Val.{Fits}
 use mir.Syntax.{w8}
 use Rattle.std.proofs.Common.{rules}
 use Rattle.protocol.proofs.Refusals.{run_done}
-use Rattle.protocol.specs.Calls.{Numbered}
+use Rattle.protocol.specs.declared.Numbered.{Numbered}
 use Rattle.port.specs.Parts.{found}
 use Rattle.port.proofs.Given.{given, run_says}
 use Rattle.port.proofs.run.Goals as goal
