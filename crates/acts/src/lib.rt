@@ -94,15 +94,12 @@ pub fn erase_all(s: State, settings: Settings, image: &mut [u8], confirm: u8) ->
     not_carried(s.registers, confirm)
 }
 
-// What followed F5 is what follows it in the right ID packet.
-#[tactic(auto, unfolding(protocol::specs::Endings::is_right, protocol::specs::Endings::right_id))]
+// What followed F5 is what follows it in the right ID packet: all eleven bytes in one comparison.
 fn is_right(image: &[u8], xs: &[u8]) -> bool
     ensures { result ≡ is_right image.now xs.now }
 {
-    match xs {
-        [0xDF, 0xFF, 0x00, 0x07, id @ ..] => slices::is_same(id, &flash::id(image)),
-        _ => false,
-    }
+    let [a, b, c, d, e, f, g] = flash::id(image);
+    slices::is_same(xs, &[0xDF, 0xFF, 0x00, 0x07, a, b, c, d, e, f, g])
 }
 
 // The count of wrong ID checks after one more, of a unit that did not start blank.

@@ -1,12 +1,22 @@
--- Bytes put at the front of a list: as many as fit at once, and what the next one adds where they come one after the other.
+-- Comparing, byte by byte, and bytes put at the front of a list: as many as fit at once, and what the next one adds where they come one after the other.
 use Prim.Native.Nat.{ℕ, zero, suc, ◌<◌, min}
 use native.Mathlib.Omega.{arith}
-use mathlib.Core.Path.{◌≡◌, refl, ap}
+use mathlib.Core.Bool.{Bool, false, ◌&&◌}
+use mathlib.Core.Path.{◌≡◌, refl, ap, ◌∙◌}
 use mathlib.Core.List.{List, [], ◌∷◌, ◌++◌}
 use lib.ListN.{length, get_or, set, take, drop}
+use lib.Dec.{eqb}
+use Rattle.std.proofs.Math.Bool.{and-false}
 use Rattle.std.proofs.Math.Nat.{min_comm}
 use Rattle.std.proofs.lemmas.List.{take_min, drop_min}
-use Rattle.slices.specs.Lists.{front}
+use Rattle.slices.specs.Lists.{same, front}
+
+pub same_long : (a b : List ℕ) → (length a ≡ length b → ⊥) → same a b ≡ false
+same_long [] [] h = absurd (h refl)
+same_long [] (y ∷ b) h = refl
+same_long (x ∷ a) [] h = refl
+same_long (x ∷ a) (y ∷ b) h =
+    ap (λ (t : Bool). eqb x y && t) (same_long a b (λ e. h (ap suc e))) ∙ and-false (eqb x y)
 
 -- what fits is as many bytes as the shorter of the two has
 pub copied : (s d l : List ℕ) (n : ℕ) → n ≡ min (length s) (length d) → l ≡ take n s → l ++ drop n d ≡ front s d

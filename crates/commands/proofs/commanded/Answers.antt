@@ -5,9 +5,9 @@ use Rattle.unit.specs.declared.Unit.{Unit as Port}
 use Rattle.protocol.specs.Commands.{Command, status, version, time, rate, commands, meaning, needs_open, effect, dropped, commanded}
 use Rattle.commands.proofs.commanded.Goals as goal
 
-means_rate : (b : ℕ) → 0xB0 ≤ b → b ≤ 0xB4 → meaning b ≡ rate (b - 0xB0)
+means_rate : (b r : ℕ) → 0xB0 ≤ b → b ≤ 0xB4 → r ≡ b - 0xB0 → meaning b ≡ rate r
 unfolding meaning commands
-means_rate b low high = grind (arith, nat_tests)
+means_rate b r low high e = grind (arith, nat_tests)
 
 -- a command that a closed unit takes too has its effect on every unit
 takes : {c : Command} (u : Port) (img : List ℕ) (b : ℕ) → meaning b ≡ c → needs_open c ≡ false → commanded (meaning b) u img b ≡ effect c u img b
@@ -32,4 +32,4 @@ returns-in-0 c t img = c.take_time.ensures t img _ ∙ sym (takes {c = time} _ i
 
 pub returns-in-176-to-180 : goal.returns-in-176-to-180
 unfolding needs_open
-returns-in-176-to-180 c t img = c.set_rate.ensures t img ∙ sym (takes _ img c.args.b (means_rate c.args.b (omega arith) (omega arith)) refl)
+returns-in-176-to-180 c t img = c.set_rate.ensures t img ∙ sym (takes _ img c.args.b (means_rate c.args.b _ (omega arith) (omega arith) (omega arith)) refl)
