@@ -12,11 +12,11 @@ use Rattle.live.specs.declared.Unread.{Unread}
 use Rattle.live.specs.declared.Unread.TheVariants.{TooLarge, NotANumber}
 use Rattle.live.specs.Argument.{is_digit, told, given_from, given}
 
-told_over : (n : ℕ) → 255 < n → told n ≡ Err TooLarge
+pub told_over : (n : ℕ) → 255 < n → told n ≡ Err TooLarge
 unfolding told
 told_over n h = rw (lt-ltb 255 n h)
 
-told_within : (n : ℕ) → n ≤ 255 → told n ≡ Ok n
+pub told_within : (n : ℕ) → n ≤ 255 → told n ≡ Ok n
 unfolding told
 told_within n h = rw (le-ltb 255 n h)
 

@@ -16,7 +16,7 @@ use Rattle.commands.specs.Clauses.{bytes_of, PutEnsures}
 use Rattle.port.specs.Parts.{done}
 
 -- the front of an area that is long enough
-front_fits : (l area : List ℕ) → length l ≤ length area → front l area ≡ l ++ drop (length l) area
+pub front_fits : (l area : List ℕ) → length l ≤ length area → front l area ≡ l ++ drop (length l) area
 unfolding front
 front_fits l area h = rw (take_all (length area) l h)
 

@@ -9,9 +9,9 @@ use Rattle.unit.proofs.Ranged.{Sound, sound}
 use Rattle.std.specs.Prelude.{Err}
 use Rattle.protocol.specs.declared.Refused.{Refused}
 use Rattle.protocol.specs.declared.Numbered.{Numbered}
-use Rattle.protocol.specs.Calls.{left, number_of, refusal, refusing, numbered, run_call}
+use Rattle.protocol.specs.Calls.{left, number_of, refusal, refusing, numbered, byte_call, run_call}
 use Rattle.protocol.proofs.Numbers.{not_none}
-use Rattle.protocol.proofs.Refusals.{not_refused, run_refused}
+use Rattle.protocol.proofs.Refusals.{not_refused, byte_refused, run_refused}
 use Rattle.port.specs.Parts.{Fine}
 
 pub bytes_each : (xs : List ℕ) → ((i : ℕ) → get_or xs i 0 < 256) → Bytes xs
@@ -36,3 +36,6 @@ module _ (u : Port) (img area : List ℕ) (e : Refused) (h : refusing (number_of
 
   pub run_says : (bytes : List ℕ) → left (numbered (Err e)) img area ≡ run_call u img bytes area
   run_says bytes = ap (λ (n : Numbered). left n img area) h ∙ sym (run_refused u img area bytes some)
+
+  pub byte_says : (b : ℕ) → left (numbered (Err e)) img area ≡ byte_call u img area b
+  byte_says b = ap (λ (n : Numbered). left n img area) h ∙ sym (byte_refused u img area b some)

@@ -12,9 +12,10 @@ use borrow.Author.Tests.{eqb-true, eqb-false, ltb-true, lt-ltb}
 use Rattle.flash.specs.Blocks.{part, page_address, byte_address}
 use Rattle.flash.specs.Image.{written, page_part, erase_block, erase_all}
 use Rattle.unit.specs.declared.Unit.{Unit as Port}
+use Rattle.unit.specs.declared.Phase.{Phase}
 use Rattle.unit.specs.Phases.{Kind, need}
 use Rattle.unit.specs.Phases.Kind.{page_read, page_program, unit_program, block_erase, all_erase, id_check}
-use Rattle.unit.specs.Model.{whole, state_of, longer, ended}
+use Rattle.unit.specs.Model.{whole, state, longer, ended}
 use Rattle.unit.proofs.Lengths.{need_next, few_sized}
 use Rattle.protocol.specs.Outcome.{says, quiet}
 use Rattle.protocol.specs.Endings.{page_reply, bank_end, reaching, programmed_by, programs, erases, finished}
@@ -72,14 +73,14 @@ module _ (k : Kind) (u : Port) (img : List ℕ) (n b : ℕ) (room : n < length u
       packet_last k n u img b e ∙ ap (finished k u img) (come ∙ ap (λ (m : ℕ). take m (set u.collected n b)) (sym all))
 
 -- what a packet does goes by the registers and the settings alone, besides the image and its own bytes
-pub finished_alike : (k : Kind) (u : Port) (got img xs : List ℕ) → finished k (whole (state_of u) u.settings got) img xs ≡ finished k u img xs
+pub finished_alike : (k : Kind) (u : Port) (f : Phase) (got img xs : List ℕ) → finished k (whole (state f u.registers) u.settings got) img xs ≡ finished k u img xs
 unfolding finished programs erases ended
-finished_alike page_read u got img xs = refl
-finished_alike page_program u got img xs = refl
-finished_alike unit_program u got img xs = refl
-finished_alike block_erase u got img xs = refl
-finished_alike all_erase u got img xs = refl
-finished_alike id_check u got img xs = refl
+finished_alike page_read u f got img xs = refl
+finished_alike page_program u f got img xs = refl
+finished_alike unit_program u f got img xs = refl
+finished_alike block_erase u f got img xs = refl
+finished_alike all_erase u f got img xs = refl
+finished_alike id_check u f got img xs = refl
 
 -- a part of a list, its two ends in either order
 drop_take : (k m : ℕ) (l : List ℕ) → drop k (take m l) ≡ take (m - k) (drop k l)

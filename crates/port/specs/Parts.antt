@@ -2,6 +2,8 @@
 use Rattle.std.specs.Prelude.{ℕ, ◌≤◌, ◌≡◌, true, List, length, take, Result, Ok, Err}
 use Rattle.slices.specs.Lists.{Bytes}
 use Rattle.unit.specs.declared.Unit.{Unit as Port}
+use Rattle.unit.specs.declared.Phase.{Phase}
+use Rattle.unit.specs.Model.{whole, state}
 use Rattle.unit.specs.Phases.{Kind, need}
 use Rattle.unit.specs.Phases.Kind.{page_read, page_program, unit_program, block_erase, all_erase, id_check}
 use Rattle.unit.specs.Range.{in_range}
@@ -27,6 +29,10 @@ all_of k got = take (need k got) got
 -- what so many bytes leave that were taken, and answered with so many bytes
 abbrev pub done : Port → ℕ → ℕ → List ℕ → List ℕ → Left
 done u taken n img area = left (record { refusal = 0; unit = u; taken = taken; reply_len = n }) img area
+
+-- the unit that is lent, in the phase that goes beside it
+abbrev pub under : Phase → Port → Port
+under f u = whole (state f u.registers) u.settings u.collected
 
 -- what an inner call is given: a unit in range (its collected bytes are 259 bytes by their type), an image of the right size, room for any reply
 pub record Fine (u : Port) (img area : List ℕ) : Type 0 where

@@ -2,15 +2,16 @@
 #![tactic(auto)]
 
 use protocol::Numbered;
-use unit::{Inputs, Phase, Place, Unit};
+use unit::{Inputs, Phase, Place, State, Unit};
 
 // An open unit, awake at a command: the fresh one of a blank image, woken.
 fn ready(image: &[u8]) -> Unit {
     let fresh = Unit::fresh(image, Inputs { protection: 0 });
-    Unit {
-        phase: Phase::Awake(Place::Command),
-        ..fresh
-    }
+    Unit::of(
+        State::at_command(fresh.registers),
+        fresh.settings,
+        fresh.collected,
+    )
 }
 
 // The phase as the case format has it: a tag, and a count. `replay` has the same table for its records: a crate for its eight lines would be no plainer, and the format is nothing of the unit's.
