@@ -4,8 +4,8 @@
 
 use rates::{Clock, Plan, Refusal};
 use std::env::FillError;
+use std::io;
 use std::rt::Env;
-use std::{fmt, io};
 use words::Unread;
 
 // The most bytes of a word. Each has room of its own, since the program takes no heap.
@@ -71,18 +71,15 @@ fn refuse_word(rt: &impl Eprint, name: &str, why: FillError) {
     let _ = eprintln!(rt; "plan: {name}: {reason}");
 }
 
-// A float with two decimals. What is above 0 and would show as 0.00 is told so.
-#[derive(Clone, Copy)]
-struct Hundredths(f64);
-
-impl fmt::Display for Hundredths {
-    fn fmt<W: fmt::Write>(&self, f: &mut fmt::Formatter<W>) -> fmt::Result {
-        let n = words::hundredths(self.0);
-        if n == 0 && 0.0 < self.0 {
-            return write!(f, "under 0.01");
-        }
-        write!(f, "{}.{:02}", n / 100, n % 100)
+// A float with two decimals, its whole part in a write of its own. What is above 0 and would show as 0.00 is told so.
+fn say_hundredths(rt: &impl Print, x: f64) {
+    let n = words::hundredths(x);
+    if n == 0 && 0.0 < x {
+        let _ = print!(rt; "under 0.01");
+        return;
     }
+    let _ = print!(rt; "{}", n / 100);
+    let _ = print!(rt; ".{:02}", n % 100);
 }
 
 // A clock, which is named by this word, and a wanted rate.
@@ -94,7 +91,7 @@ struct Question<'a> {
 }
 
 impl Question<'_> {
-    // The line of a plan. What its last write says decides, as of a line that is written in more pieces.
+    // The line of a plan, each of its parts in a write of its own. What the last one says decides, and a part that could not be written is left out.
     fn say(self, rt: &impl Print, plan: Plan) -> io::Result<()> {
         let unit = match self.clock {
             Clock::External(_) => "Hz",
@@ -102,9 +99,6 @@ impl Question<'_> {
         };
         let rate = self.rate;
         let divider = plan.divider;
-        let reached = Hundredths(plan.reached);
-        let distance = Hundredths(plan.distance);
-        let percent = Hundredths(words::percent(plan.distance, rate));
         let wanted = rate as f64;
         let way = if wanted < plan.reached {
             "too fast"
@@ -114,9 +108,19 @@ impl Question<'_> {
             "away: exact"
         };
         let _ = rt.write_all(self.word);
-        println!(rt;
-            " {unit}, {rate}: divider {divider} (hexadecimal {divider:02X}) reaches {reached} Hz, which is {distance} Hz or {percent} per cent {way}"
-        )
+        let _ = print!(rt; " {unit}, ");
+        let _ = print!(rt; "{rate}");
+        let _ = print!(rt; ": divider ");
+        let _ = print!(rt; "{divider}");
+        let _ = print!(rt; " (hexadecimal ");
+        let _ = print!(rt; "{divider:02X}");
+        let _ = print!(rt; ") reaches ");
+        say_hundredths(rt, plan.reached);
+        let _ = print!(rt; " Hz, which is ");
+        say_hundredths(rt, plan.distance);
+        let _ = print!(rt; " Hz or ");
+        say_hundredths(rt, words::percent(plan.distance, rate));
+        println!(rt; " per cent {way}")
     }
 
     fn answer(self, rt: &impl Print) -> Result<(), Fault> {

@@ -26,11 +26,16 @@ impl<'a, P: Print> Output<'a, P> {
         self.waiting = 0;
     }
 
-    // More bytes, which wait where they fit.
-    pub(crate) fn put(&mut self, bytes: &[u8]) {
-        if self.buffer.len() - self.waiting < bytes.len() {
+    // Room for so many bytes, which are put in pieces and are not to be parted: what waits is written first where they do not fit.
+    pub(crate) fn room(&mut self, n: usize) {
+        if self.buffer.len() - self.waiting < n {
             self.flush();
         }
+    }
+
+    // More bytes, which wait where they fit.
+    pub(crate) fn put(&mut self, bytes: &[u8]) {
+        self.room(bytes.len());
         let end = self.waiting + bytes.len();
         match self.buffer.get_mut(self.waiting..end) {
             Some(room) => {

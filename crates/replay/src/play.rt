@@ -30,6 +30,7 @@ impl<'a, P: Print> Player<'a, P> {
     }
 
     fn put_unit(&mut self) {
+        self.output.room(record::SIZE);
         self.output.put(&record::head(&self.unit));
         self.output.put(&self.unit.collected);
     }

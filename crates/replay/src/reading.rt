@@ -1,4 +1,5 @@
 // What is left of a case's bytes, and how its fields are taken from it one after the other.
+ghost use Rattle.std.specs.Prelude.{◌≡◌, IfOk, length};
 ghost use Rattle.std.specs.Iterator.{at_most};
 
 use std::marker::PhantomData;
@@ -36,7 +37,9 @@ impl<'a> Rest<'a> {
         }
     }
 
-    pub(crate) fn bytes(&mut self, n: usize) -> Result<&'a [u8], Broken> {
+    pub(crate) fn bytes(&mut self, n: usize) -> Result<&'a [u8], Broken>
+        ensures { IfOk result (λ bytes. length bytes.now ≡ n) }
+    {
         let (front, rest) = self.0.split_at_checked(n).ok_or(Broken)?;
         self.0 = rest;
         Ok(front)

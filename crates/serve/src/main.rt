@@ -21,13 +21,13 @@ const CHUNK: usize = 512;
 // The most bytes of an argument, which has room of its own: the program takes no heap.
 const WORD: usize = 4096;
 
-// A session: the unit, its image, and the image that is stored in unit.img.
+// A session: the unit, its image, and the image that is stored in unit.img. Both are lent: by value they would stand on the stack twice, here and in the answer of `begin`.
 #[derive(Drop)]
 struct Session<'a, R> {
     rt: &'a R,
     unit: Unit,
-    image: [u8; flash::IMAGE],
-    stored: [u8; flash::IMAGE],
+    image: &'a mut [u8],
+    stored: &'a mut [u8],
 }
 
 // Writes the image to a new file, over what a killed run left there, and waits until it is on the disk.
@@ -70,36 +70,43 @@ fn tell_lock(rt: &impl Eprint, before: u8, after: u8) {
 }
 
 impl<'a, R: Files + Print + Eprint> Session<'a, R> {
-    // The session of an image, from its start on.
-    fn begin(rt: &'a R, given: &[u8], protection: u8) -> Result<Session<'a, R>, Stop> {
-        let unit = port::start(given, Inputs { protection }).map_err(
+    // The session of an image, from its start on, with room for the one that is stored.
+    fn begin(
+        rt: &'a R,
+        image: &'a mut [u8],
+        stored: &'a mut [u8],
+        protection: u8,
+    ) -> Result<Session<'a, R>, Stop> {
+        let unit = port::start(image, Inputs { protection }).map_err(
             |refused| match refused.refusal {
                 Refusal::Image => Stop::ImageSize,
                 // a start refuses nothing else
                 _ => Stop::ProtectionTooLarge,
             },
         )?;
-        let mut image = [0u8; flash::IMAGE];
-        slices::copy(&mut image, given);
+        slices::copy(stored, image);
         Ok(Session {
             rt,
             unit,
             image,
-            stored: image,
+            stored,
         })
     }
 
     // A byte: what it leads to is stored before it is answered, and answered before the next one.
     fn take(&mut self, b: u8) -> Result<(), Stop> {
         let mut area = [0u8; 256];
-        let turn = live::give(self.unit, &mut self.image, &self.stored, &mut area, b);
+        // lent on here once: no rule of the borrow checker covers the fields as arguments
+        let image = &mut *self.image;
+        let stored = &mut *self.stored;
+        let turn = live::give(self.unit, image, stored, &mut area, b);
         let answer = turn.answer.map_err(|_| Stop::ByteRefused)?;
         let before = self.unit.registers.mismatches;
         self.unit = answer.unit;
         tell_lock(self.rt, before, self.unit.registers.mismatches);
         if turn.changed {
-            save(self.rt, &self.image)?;
-            self.stored = self.image;
+            save(self.rt, image)?;
+            slices::copy(stored, image);
         }
         self.rt
             .write_all(slices::first(&area, answer.reply_len))
@@ -126,10 +133,10 @@ impl<'a, R: Files + Print + Eprint> Session<'a, R> {
 }
 
 // The image of unit.img, a byte more than it may have.
-fn load<'a>(rt: &impl Files, buffer: &'a mut [u8]) -> Result<&'a [u8], Stop> {
+fn load<'a>(rt: &impl Files, buffer: &'a mut [u8]) -> Result<&'a mut [u8], Stop> {
     let mut file = File::open(rt, "unit.img").map_err(|why| Stop::System("serve: unit.img", why))?;
     let n = system::fill(&mut file, buffer);
-    Ok(&buffer[..n])
+    Ok(&mut buffer[..n])
 }
 
 // The protection that the command line gives.
@@ -146,11 +153,22 @@ fn protection(rt: &impl Env) -> Result<u8, Stop> {
     }
 }
 
+// The session, and all the room for its images. Not inlined, so that words that are refused take no stack for it.
+#[inline(never)]
+fn run(
+    rt: &(impl Files + Print + Eprint),
+    line: &mut impl Read,
+    protection: u8,
+) -> Result<(), Stop> {
+    let mut buffer = [0u8; flash::IMAGE + 1];
+    let mut stored = [0u8; flash::IMAGE];
+    let image = load(rt, &mut buffer)?;
+    Session::begin(rt, image, &mut stored, protection)?.take_all(line)
+}
+
 fn serve(rt: &(impl Env + Files + Print + Eprint), line: &mut impl Read) -> Result<(), Stop> {
     let protection = protection(rt)?;
-    let mut buffer = [0u8; flash::IMAGE + 1];
-    let image = load(rt, &mut buffer)?;
-    Session::begin(rt, image, protection)?.take_all(line)
+    run(rt, line, protection)
 }
 
 fn main(rt: HostRuntime) {

@@ -1,6 +1,6 @@
 -- What the words say, by the places of their digits: a reading is a word's meaning, once the word is neither of the two fixed clocks, which a number in digits alone
 -- and a number with a point are told from by their bytes. And a byte that no number has spoils every word it stands in, since no byte leads away from that state.
-use Rattle.std.proofs.Common.{◌≡◌, ℕ, suc, ◌+◌, ◌-◌, ◌^◌, ◌<◌, ◌≤◌, min, false, eqb, List, [], ◌∷◌, ◌++◌, length, Ok, Err, sym, refl, ap, ◌∙◌, subst, arith, length-append, drop, get_or, drop-cons}
+use Rattle.std.proofs.Common.{◌≡◌, ℕ, suc, ◌+◌, ◌-◌, ◌^◌, ◌<◌, ◌≤◌, min, false, eqb, List, [], ◌∷◌, ◌++◌, length, Ok, Err, sym, refl, ap, ◌∙◌, subst, arith, length-append, add-one, drop, get_or, drop-cons}
 use lib.Ieee.{binary64, div}
 use Rattle.slices.specs.Lists.{same}
 use Rattle.slices.proofs.Lists.{same_true}
@@ -14,7 +14,7 @@ use Rattle.words.specs.Numbers.{State, Start, Whole, Point, Decimals, NotANumber
 use Rattle.words.specs.Partly.{going_in, going_on, ended_in, ended}
 use Rattle.words.specs.Words.{clock_in, clock_word, whole_rate, rate_in, rate_word}
 use Rattle.words.specs.Places.{Digits, value}
-use Rattle.words.proofs.Texts.{word_number, other_read}
+use Rattle.words.proofs.Texts.{digit_is, word_number, other_read}
 use Rattle.words.proofs.Places.{whole_says, decimals_say, text_append}
 
 module _ (fs : List ℕ) (ds : Digits fs) (h : 0 < length fs) (l : length fs ≤ 15) where
@@ -73,6 +73,13 @@ all_spoilt (b ∷ bs) r e = all_spoilt bs (read_byte r b) (spoilt r b e)
 -- a byte that is no digit and no point, wherever it stands
 pub other_spoils : (fs bs : List ℕ) (b : ℕ) → is_digit b ≡ false → (b ≡ 0x2E → ⊥) → (read_text (fs ++ (b ∷ bs))).state ≡ NotANumber
 other_spoils fs bs b e p = ap (λ (r : Reading). r.state) (text_append fs (b ∷ bs)) ∙ all_spoilt bs (read_byte (read_text fs) b) (ap (λ (r : Reading). r.state) (sym (other_read (read_text fs) b e p)))
+
+-- where the code goes on by a digit, the rest after it is read from there
+pub digit_goes : (text : List ℕ) (r q : Reading) (i : ℕ) → i < length text → 0x30 ≤ get_or text i 0 → get_or text i 0 ≤ 0x39
+    → q ≡ digit_in r.state r (get_or text i 0 - 0x30) → read_from r (drop i text) ≡ read_text text → read_from q (drop (i + 1) text) ≡ read_text text
+digit_goes text r q i h l m e v =
+    let t : read_from (read_byte r (get_or text i 0)) (drop (suc i) text) ≡ read_from r (drop i text) = rw (drop-cons text i 0 h) in
+    rw (e ∙ digit_is r (get_or text i 0) l m, add-one) (t ∙ v)
 
 -- where the code stops at a byte, the word is no number
 wrong_in : (s : State) (r : Reading) (e : Unread) → going_in s r ≡ Err e → (s ≡ NotANumber) × (e ≡ unread.NotANumber)

@@ -25,10 +25,12 @@ going_self p = go p.stage
     go stage.TooLong = refl
 
 module _ (r : Reading) (b : ℕ) where
-  pub digit_read : (p : Partial) → reading_of p ≡ digit_in r.state r (b - 0x30) → 0x30 ≤ b → b ≤ 0x39 → Ok p ≡ going_on (read_byte r b)
+  pub digit_is : 0x30 ≤ b → b ≤ 0x39 → digit_in r.state r (b - 0x30) ≡ read_byte r b
   unfolding read_byte is_digit
-  digit_read p e l h =
-      let read : digit_in r.state r (b - 0x30) ≡ read_byte r b = rw (le-leb 0x30 b l, le-leb b 0x39 h) in going_self p ∙ ap going_on (e ∙ read)
+  digit_is l h = rw (le-leb 0x30 b l, le-leb b 0x39 h)
+
+  pub digit_read : (p : Partial) → reading_of p ≡ digit_in r.state r (b - 0x30) → 0x30 ≤ b → b ≤ 0x39 → Ok p ≡ going_on (read_byte r b)
+  digit_read p e l h = going_self p ∙ ap going_on (e ∙ digit_is l h)
 
   pub point_read : b ≡ 0x2E → going_on (with_state r (after_point r.state)) ≡ going_on (read_byte r b)
   unfolding read_byte is_digit

@@ -108,6 +108,7 @@ impl Partial {
         ensures { result ≡ going_on (read_byte (reading_of self) b) }
     {
         match b {
+            // for the clause, which is of any byte: `read` has taken the digits
             b'0'..=b'9' => Ok(self.digit(b - b'0')),
             b'.' => self.point(),
             _ => Err(Unread::NotANumber),
@@ -124,12 +125,16 @@ impl Partial {
     }
 }
 
-// Reads a number, which ends in a digit.
+// Reads a number, which ends in a digit. A digit goes by itself: in a Result the partial number is copied with its padding, and a word took twice as long.
 fn read(text: &[u8]) -> Result<Partial, Unread>
     ensures { result ≡ ended (read_text text.now) }
 {
     let mut r = Partial::START;
     for &b in text {
+        if b'0' <= b && b <= b'9' {
+            r = r.digit(b - b'0');
+            continue;
+        }
         r = r.byte(b)?;
     }
     match r.stage {
